@@ -1,0 +1,2 @@
+-- What it is that a contract decides its outcome.
+pub mod Determined
