@@ -2,3 +2,4 @@
 pub mod Serials
 pub mod Fields
 pub mod Cards
+pub mod RoundTrip
