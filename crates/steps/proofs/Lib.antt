@@ -1,0 +1,8 @@
+-- The theorems, in reading order.
+pub mod Outcomes
+pub mod Strike
+pub mod Move
+pub mod Draw
+pub mod Demand3
+pub mod Play
+pub mod OneCard

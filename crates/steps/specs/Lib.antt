@@ -1,0 +1,10 @@
+-- Steps, runs and demand 3, in reading order.
+pub mod Answers
+pub mod Port
+pub mod Parts
+pub mod Module
+pub mod Run
+pub mod Shorter
+pub mod Demand3
+pub mod Gauge
+pub mod OneCard
