@@ -6,3 +6,5 @@ pub mod Draw
 pub mod Demand3
 pub mod Play
 pub mod OneCard
+pub mod Always
+pub mod Calls

@@ -1,9 +1,9 @@
 -- Names for what each step makes of its part's answer, so that a proof goes by cases of that answer; and a run with no refusal.
 use Prim.Native.Nat.{ℕ, suc}
 use native.Mathlib.Nat.{suc-ne-zero}
-use mathlib.Core.Path.{_≡_, refl}
+use mathlib.Core.Path.{_≡_, refl, sym}
 use mathlib.Core.List.{List}
-use Rattle.steps.specs.Answers.{OrRefusal, andThen}
+use Rattle.steps.specs.Answers.{OrRefusal, refused, accepted, andThen}
 use Rattle.steps.specs.Port.{Port}
 use Rattle.steps.specs.Parts.{Parts}
 use Rattle.steps.specs.Module.{hold, read, State, withMeter, withDesk, withHeld, Report, silent, commits, tells, closes, Outcome}
@@ -38,3 +38,10 @@ module _ (P : Parts) where
 -- a run of no refusal has not begun with one
 pub never : {A : Type 0} {n : ℕ} → suc n ≡ 0 → A
 never {n = n} h = absurd (suc-ne-zero n h)
+
+-- a refusal is no answer, and an answer is the answer
+pub refused-never : {A B : Type 0} {n : ℕ} {a : A} → refused n ≡ accepted a → B
+refused-never e = let z : _≡_ {A = ℕ} 0 1 = cc in absurd (suc-ne-zero 0 (sym z))
+
+pub accepted-is : {A : Type 0} {a b : A} → accepted a ≡ accepted b → a ≡ b
+accepted-is e = cc

@@ -8,3 +8,5 @@ pub mod Shorter
 pub mod Demand3
 pub mod Gauge
 pub mod OneCard
+pub mod Always
+pub mod Calls
