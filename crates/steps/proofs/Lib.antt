@@ -8,3 +8,4 @@ pub mod Play
 pub mod OneCard
 pub mod Always
 pub mod Calls
+pub mod Example

@@ -10,3 +10,4 @@ pub mod Gauge
 pub mod OneCard
 pub mod Always
 pub mod Calls
+pub mod Example
