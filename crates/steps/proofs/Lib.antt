@@ -4,6 +4,8 @@ pub mod Strike
 pub mod Move
 pub mod Draw
 pub mod Demand3
+pub mod Cards
+pub mod Tidy
 pub mod Play
 pub mod OneCard
 pub mod Always

@@ -39,9 +39,13 @@ module _ (P : Parts) where
 pub never : {A : Type 0} {n : ℕ} → suc n ≡ 0 → A
 never {n = n} h = absurd (suc-ne-zero n h)
 
+-- two constructors that are said to be equal (`zero-one cc`)
+pub zero-one {ℓ} : {A : Type ℓ} → _≡_ {A = ℕ} 0 1 → A
+zero-one e = absurd (suc-ne-zero 0 (sym e))
+
 -- a refusal is no answer, and an answer is the answer
 pub refused-never : {A B : Type 0} {n : ℕ} {a : A} → refused n ≡ accepted a → B
-refused-never e = let z : _≡_ {A = ℕ} 0 1 = cc in absurd (suc-ne-zero 0 (sym z))
+refused-never e = zero-one cc
 
 pub accepted-is : {A : Type 0} {a b : A} → accepted a ≡ accepted b → a ≡ b
 accepted-is e = cc

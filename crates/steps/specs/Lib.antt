@@ -6,6 +6,7 @@ pub mod Module
 pub mod Run
 pub mod Shorter
 pub mod Demand3
+pub mod Tidy
 pub mod Gauge
 pub mod OneCard
 pub mod Always
