@@ -10,4 +10,4 @@ pub mod Play
 pub mod OneCard
 pub mod Always
 pub mod Calls
-pub mod Example
+pub mod Day

@@ -11,4 +11,5 @@ pub mod Gauge
 pub mod OneCard
 pub mod Always
 pub mod Calls
-pub mod Example
+pub mod Site
+pub mod Day

@@ -6,7 +6,8 @@ use Rattle.steps.specs.Shorter.{shorter, stepsOf}
 use Rattle.steps.specs.Run.{Run, run}
 use Rattle.steps.specs.Gauge.{inForce}
 use Rattle.steps.specs.OneCard.{tagged, intervals}
-use Rattle.steps.specs.Example.{core, ports, site, morning, day, shorterDay, dayClosed, dayIntervals, dayHeard}
+use Rattle.steps.specs.Site.{core, ports, site, morning}
+use Rattle.steps.specs.Day.{s601, day, shorterDay, dayClosed, dayIntervals, dayHeard}
 
 abbrev whole : Run site
 whole = run site day morning
@@ -30,7 +31,7 @@ tells = (refl, refl)
 energy : (whole .end .meter .work .energy ≡ 75) × (short .end .meter .work .energy ≡ 75)
 energy = (refl, refl)
 
-in-force : (inForce core (whole .end .meter) ≡ some (record { serial = 601; gain = 7 })) × (inForce core (short .end .meter) ≡ some (record { serial = 601; gain = 7 }))
+in-force : (inForce core (whole .end .meter) ≡ some (record { serial = s601; gain = 7 })) × (inForce core (short .end .meter) ≡ some (record { serial = s601; gain = 7 }))
 in-force = (refl, refl)
 
 ends : short .end ≡ whole .end
