@@ -1,12 +1,12 @@
 -- Calls of code, one after the other, do what the run does; so demand 3 holds of the calls, and of the struct that the code keeps.
-use Prim.Native.Nat.{ℕ, suc}
+use Prim.Native.Nat.{suc}
 use mathlib.Core.Path.{_≡_, refl, ap, sym, subst, _∙_}
 use mathlib.Core.List.{List, [], _∷_}
 use mathlib.Core.Option.{none, some}
 use Rattle.steps.specs.Answers.{OrRefusal, refused, accepted, andThen}
 use Rattle.steps.specs.Port.{Port, port0, port1, PerPort, on, putOn}
 use Rattle.steps.specs.Parts.{Parts}
-use Rattle.steps.specs.Module.{Op, edit, commit, dropCard, hold, read, Step, atPort, block, State, withMeter, withDesk, withHeld, fresh, Report, silent, commits, tells, closes, Outcome, step}
+use Rattle.steps.specs.Module.{Op, edit, commit, dropCard, hold, read, Step, atPort, block, State, withMeter, withDesk, withHeld, fresh, Report, silent, commits, tells, closes, Outcome, step, didEdit, didCommit, didDrop, didHold, didRead, didBlock, Done}
 use Rattle.steps.specs.Run.{Run, withReport, follow, run}
 use Rattle.steps.specs.Shorter.{stepsOf, shorter}
 use Rattle.steps.specs.Calls.{Reply, reply, after, Sound, SoundState, Code, Log, noted, calls, CallsRun, CallsDemand3}
@@ -43,7 +43,7 @@ module _ (P : Parts) where
     with-held : (p : Port) (h : P .Held) (s : State P) → SoundState P S s → SoundState P S (withHeld P p h s)
     with-held p h s w = record { meter = w .meter; desks = w .desks }
 
-    after-sound : {A : Type 0} (q : OrRefusal A) (f : A → Report P × State P) (s : State P) → SoundState P S s → ((a : A) → q ≡ accepted a → SoundState P S (f a .1)) →
+    after-sound : {A : Type 0} (q : OrRefusal A) (f : A → Done P) (s : State P) → SoundState P S s → ((a : A) → q ≡ accepted a → SoundState P S (f a .1)) →
         SoundState P S (after P (andThen q f) s)
     after-sound (refused n) f s w k = w
     after-sound (accepted a) f s w k = k a refl
@@ -51,17 +51,17 @@ module _ (P : Parts) where
     pub step-sound : (x : Step P) (s : State P) → SoundState P S s → SoundState P S (after P (step P x s) s)
     step-sound (atPort none op) s w = w
     step-sound (atPort (some p) (edit e)) s w =
-        after-sound (P .edited (on (s .desks) p) e) (λ d. (silent, withDesk P p d s)) s w (λ d q. with-desk p d s (edited-sound (on (s .desks) p) e d (w .desks p) q) w)
+        after-sound (P .edited (on (s .desks) p) e) (didEdit P p s) s w (λ d q. with-desk p d s (edited-sound (on (s .desks) p) e d (w .desks p) q) w)
     step-sound (atPort (some p) commit) s w =
-        after-sound (P .finished (on (s .desks) p)) (λ c. (commits c, withMeter P (P .wait c (s .meter)) (withDesk P p (P .shut) s))) s w
+        after-sound (P .finished (on (s .desks) p)) (didCommit P p s) s w
         (λ c q. with-meter (P .wait c (s .meter)) (withDesk P p (P .shut) s) (wait-sound c (s .meter) (finished-sound (on (s .desks) p) c (w .desks p) q) (w .meter)) (with-desk p (P .shut) s shut-sound w))
     step-sound (atPort (some p) dropCard) s w =
-        after-sound (P .discarded (on (s .desks) p)) (λ u. (silent, withDesk P p (P .shut) s)) s w (λ u q. with-desk p (P .shut) s shut-sound w)
+        after-sound (P .discarded (on (s .desks) p)) (didDrop P p s) s w (λ u q. with-desk p (P .shut) s shut-sound w)
     step-sound (atPort (some p) (hold k)) s w =
-        after-sound (P .copy k (s .meter)) (λ h. (tells p (hold k) (P .told k h), withHeld P p h s)) s w (λ h q. with-held p h s w)
-    step-sound (atPort (some p) (read a)) s w = after-sound (P .look (on (s .holds) p) a) (λ v. (tells p (read a) v, s)) s w (λ v q. w)
+        after-sound (P .copy k (s .meter)) (didHold P p k s) s w (λ h q. with-held p h s w)
+    step-sound (atPort (some p) (read a)) s w = after-sound (P .look (on (s .holds) p) a) (didRead P p a s) s w (λ v q. w)
     step-sound (block b) s w =
-        after-sound (P .feed (s .meter) b) (λ r. (closes b (r .1), withMeter P (r .0) s)) s w (λ r q. with-meter (r .0) s (feed-sound (s .meter) b r (w .meter) q) w)
+        after-sound (P .feed (s .meter) b) (didBlock P b s) s w (λ r q. with-meter (r .0) s (feed-sound (s .meter) b r (w .meter) q) w)
 
     pub always-sound : (xs : List (Step P)) (s : State P) → SoundState P S s → SoundState P S (run P xs s .end)
     always-sound [] s w = w
@@ -90,7 +90,7 @@ module _ (P : Parts) where
         report-agree x (tells p op v) t u g = absurd u
         report-agree x (closes b c) t u g = g
 
-        other-agree : {A : Type 0} (x : Step P) (q : OrRefusal A) (f : A → Report P × State P) → ((a : A) → Untold (f a .0)) → Agree l (rest (after P (andThen q f) s)) →
+        other-agree : {A : Type 0} (x : Step P) (q : OrRefusal A) (f : A → Done P) → ((a : A) → Untold (f a .0)) → Agree l (rest (after P (andThen q f) s)) →
             Agree (noted P S C x (reply P (andThen q f)) l) (follow P (andThen q f) s rest)
         other-agree x (refused n) f u g = (ap suc (g .0), g .1, g .2)
         other-agree x (accepted a) f u g = report-agree x (f a .0) (f a .1) (u a) g
@@ -103,13 +103,13 @@ module _ (P : Parts) where
 
         step-agree : (x : Step P) → Agree l (rest (after P (step P x s) s)) → Agree (noted P S C x (reply P (step P x s)) l) (follow P (step P x s) s rest)
         step-agree (atPort none op) g = (ap suc (g .0), g .1, g .2)
-        step-agree (atPort (some p) (edit e)) g = other-agree (atPort (some p) (edit e)) (P .edited (on (s .desks) p) e) (λ d. (silent, withDesk P p d s)) (λ d. tt) g
+        step-agree (atPort (some p) (edit e)) g = other-agree (atPort (some p) (edit e)) (P .edited (on (s .desks) p) e) (didEdit P p s) (λ d. tt) g
         step-agree (atPort (some p) commit) g =
-            other-agree (atPort (some p) commit) (P .finished (on (s .desks) p)) (λ c. (commits c, withMeter P (P .wait c (s .meter)) (withDesk P p (P .shut) s))) (λ c. tt) g
-        step-agree (atPort (some p) dropCard) g = other-agree (atPort (some p) dropCard) (P .discarded (on (s .desks) p)) (λ u. (silent, withDesk P p (P .shut) s)) (λ u. tt) g
+            other-agree (atPort (some p) commit) (P .finished (on (s .desks) p)) (didCommit P p s) (λ c. tt) g
+        step-agree (atPort (some p) dropCard) g = other-agree (atPort (some p) dropCard) (P .discarded (on (s .desks) p)) (didDrop P p s) (λ u. tt) g
         step-agree (atPort (some p) (hold k)) g = told-agree p (hold k) (P .copy k (s .meter)) (P .told k) (λ h. withHeld P p h s) g
         step-agree (atPort (some p) (read a)) g = told-agree p (read a) (P .look (on (s .holds) p) a) (λ v. v) (λ v. s) g
-        step-agree (block b) g = other-agree (block b) (P .feed (s .meter) b) (λ r. (closes b (r .1), withMeter P (r .0) s)) (λ r. tt) g
+        step-agree (block b) g = other-agree (block b) (P .feed (s .meter) b) (didBlock P b s) (λ r. tt) g
 
       agree : (xs : List (Step P)) (k : Kept) → SoundState P S (seen k) → Agree (calls P S C xs k) (run P xs (seen k))
       agree [] k w = (refl, refl, refl)

@@ -2,10 +2,10 @@
 use mathlib.Core.Path.{_≡_, refl, ap, ap₂, sym, _∙_}
 use mathlib.Core.List.{List, [], _∷_, _++_, append-nil, append-assoc}
 use mathlib.Core.Option.{none, some}
-use Rattle.steps.specs.Port.{Port, port0, port1, PerPort, on, putOn, onBoth, ifSame}
+use Rattle.steps.specs.Port.{Port, port0, port1, on, putOn, onBoth, ifSame}
 use Rattle.steps.specs.Parts.{Parts}
 use Rattle.steps.specs.Module.{edit, commit, dropCard, hold, read, Step, atPort, block}
-use Rattle.steps.specs.Shorter.{readsAhead, readEach, moved, Fate, staysOpen, willCommit, willDrop, Act, editEach, stepsOf, fate, Drafts, drawnEdit, drawn}
+use Rattle.steps.specs.Shorter.{readsAhead, readEach, moved, Fate, staysOpen, willCommit, willDrop, editEach, stepsOf, fate, Drafts, drawnEdit, drawn}
 use Rattle.steps.specs.Tidy.{cards}
 
 module _ (P : Parts) where

@@ -1,16 +1,15 @@
 -- Pass 3: with the dropped cards struck out and each committed card drawn into one act, a sequence of which no step is refused runs as
 -- before.
-use Prim.Native.Nat.{ℕ}
 use mathlib.Core.Path.{_≡_, refl, ap, sym, subst, _∙_}
 use mathlib.Core.List.{List, [], _∷_, _++_}
 use mathlib.Core.Option.{none, some}
 use Rattle.steps.specs.Answers.{OrRefusal, refused, accepted, andThen}
 use Rattle.steps.specs.Port.{Port, port0, port1, PerPort, on, putOn, onBoth}
 use Rattle.steps.specs.Parts.{Parts}
-use Rattle.steps.specs.Module.{edit, commit, dropCard, hold, read, Step, atPort, block, State, withMeter, withDesk, withHeld, fresh, Report, commits, tells, closes}
-use Rattle.steps.specs.Run.{Run, withReport, follow, run}
+use Rattle.steps.specs.Module.{edit, commit, dropCard, hold, read, Step, atPort, block, State, withMeter, withDesk, fresh, commits, didEdit, didCommit, didDrop, didHold, didRead, didBlock, Done}
+use Rattle.steps.specs.Run.{withReport, follow, run}
 use Rattle.steps.specs.Shorter.{Fate, staysOpen, willCommit, willDrop, editEach, stepsOf, fate, Drafts, drawnEdit, drawn}
-use Rattle.steps.proofs.Outcomes.{never, report-refusals, editing, committing, dropping}
+use Rattle.steps.proofs.Outcomes.{never, report-refusals}
 
 module _ (P : Parts) where
   -- ---- in the shorter run the desk of a card that will be committed or dropped stays shut
@@ -74,7 +73,7 @@ module _ (P : Parts) where
     go k = stepsOf P (drawn P r k)
 
     -- a step that leaves both desks
-    other-fine : {A : Type 0} (f g : Fate) → Fine port0 r go f g → (k : Drafts P) (s : State P) (act : A → Report P × State P) (q : OrRefusal A) → ((a : A) → s .desks ≡ act a .1 .desks) →
+    other-fine : {A : Type 0} (f g : Fate) → Fine port0 r go f g → (k : Drafts P) (s : State P) (act : A → Done P) (q : OrRefusal A) → ((a : A) → s .desks ≡ act a .1 .desks) →
         follow P (andThen q act) s (run P r) .refusals ≡ 0 → Need f port0 (k .on0) (s .desks .on0) → Need g port1 (k .on1) (s .desks .on1) →
         follow P (andThen q (λ a. (act a .0, veil f g (act a .1)))) (veil f g s) (run P (go k)) ≡ follow P (andThen q act) s (run P r)
     other-fine f g i k s act (refused c) e h m n = never h
@@ -85,8 +84,8 @@ module _ (P : Parts) where
         (subst (λ (z : PerPort (P .Desk)). Need g port1 (k .on1) (z .on1)) (e a) n))
 
     edit-fine : (p : Port) (e : P .Edit) (f g : Fate) → Fine p r go f g → (k : Drafts P) (s : State P) (q : OrRefusal (P .Desk)) → P .edited (on (s .desks) p) e ≡ q →
-        follow P (editing P p s q) s (run P r) .refusals ≡ 0 → Need f p (on k p) (on (s .desks) p) → Need g (other p) (on k (other p)) (on (s .desks) (other p)) →
-        run P (stepsOf P (drawnEdit P f p e (drawn P r) k)) (veilAt p f g s) ≡ follow P (editing P p s q) s (run P r)
+        follow P (andThen q (didEdit P p s)) s (run P r) .refusals ≡ 0 → Need f p (on k p) (on (s .desks) p) → Need g (other p) (on k (other p)) (on (s .desks) (other p)) →
+        run P (stepsOf P (drawnEdit P f p e (drawn P r) k)) (veilAt p f g s) ≡ follow P (andThen q (didEdit P p s)) s (run P r)
     edit-fine p e f g i k s (refused c) q h m n = never h
     edit-fine port0 e staysOpen g i k s (accepted d) q h m n = rw q (i k (withDesk P port0 d s) h tt n)
     edit-fine port1 e staysOpen g i k s (accepted d) q h m n = rw q (i k (withDesk P port1 d s) h tt n)
@@ -106,8 +105,8 @@ module _ (P : Parts) where
         ∙ i (putOn port1 [] k) (withDesk P port1 (P .shut) s) h (shut-need f port1) n
 
     commit-shut : (p : Port) (f g : Fate) → Fine p r go f g → (k : Drafts P) (s : State P) (q : OrRefusal (P .Card)) →
-        follow P (committing P p s q) s (run P r) .refusals ≡ 0 → Need g (other p) (on k (other p)) (on (s .desks) (other p)) →
-        follow P (committing P p (veilAt p staysOpen g s) q) (veilAt p staysOpen g s) (run P (go (putOn p [] k))) ≡ follow P (committing P p s q) s (run P r)
+        follow P (andThen q (didCommit P p s)) s (run P r) .refusals ≡ 0 → Need g (other p) (on k (other p)) (on (s .desks) (other p)) →
+        follow P (andThen q (didCommit P p (veilAt p staysOpen g s))) (veilAt p staysOpen g s) (run P (go (putOn p [] k))) ≡ follow P (andThen q (didCommit P p s)) s (run P r)
     commit-shut p f g i k s (refused c) h n = never h
     commit-shut port0 f g i k s (accepted c) h n = ap (withReport P (commits c)) (shut-fine port0 f g i k (withMeter P (P .wait c (s .meter)) s) h n)
     commit-shut port1 f g i k s (accepted c) h n = ap (withReport P (commits c)) (shut-fine port1 f g i k (withMeter P (P .wait c (s .meter)) s) h n)
@@ -118,8 +117,8 @@ module _ (P : Parts) where
     commit-fine port1 f g i k s h m n = m (atPort (some port1) commit ∷ go (putOn port1 [] k)) (veil g staysOpen s) ∙ commit-shut port1 f g i k s (P .finished (s .desks .on1)) h n
 
     drop-fine : (p : Port) (f g : Fate) → Fine p r go f g → (k : Drafts P) (s : State P) (q : OrRefusal (Unit {0})) →
-        follow P (dropping P p s q) s (run P r) .refusals ≡ 0 → Need g (other p) (on k (other p)) (on (s .desks) (other p)) →
-        run P (go (putOn p [] k)) (veilAt p willDrop g s) ≡ follow P (dropping P p s q) s (run P r)
+        follow P (andThen q (didDrop P p s)) s (run P r) .refusals ≡ 0 → Need g (other p) (on k (other p)) (on (s .desks) (other p)) →
+        run P (go (putOn p [] k)) (veilAt p willDrop g s) ≡ follow P (andThen q (didDrop P p s)) s (run P r)
     drop-fine p f g i k s (refused c) h n = never h
     drop-fine port0 f g i k s (accepted u) h n = shut-fine port0 f g i k s h n
     drop-fine port1 f g i k s (accepted u) h n = shut-fine port1 f g i k s h n
@@ -137,11 +136,11 @@ module _ (P : Parts) where
   fine (atPort (some port0) dropCard ∷ r) k s h m n = drop-fine r port0 (fate P port0 r) (fate P port1 r) (fine r) k s (P .discarded (s .desks .on0)) h n
   fine (atPort (some port1) dropCard ∷ r) k s h m n = drop-fine r port1 (fate P port1 r) (fate P port0 r) (flip r (go r) (fate P port0 r) (fate P port1 r) (fine r)) k s (P .discarded (s .desks .on1)) h m
   fine (atPort (some p) (hold t) ∷ r) k s h m n =
-      other-fine r (fate P port0 r) (fate P port1 r) (fine r) k s (λ v. (tells p (hold t) (P .told t v), withHeld P p v s)) (P .copy t (s .meter)) (λ v. refl) h m n
+      other-fine r (fate P port0 r) (fate P port1 r) (fine r) k s (didHold P p t s) (P .copy t (s .meter)) (λ v. refl) h m n
   fine (atPort (some p) (read a) ∷ r) k s h m n =
-      other-fine r (fate P port0 r) (fate P port1 r) (fine r) k s (λ v. (tells p (read a) v, s)) (P .look (on (s .holds) p) a) (λ v. refl) h m n
+      other-fine r (fate P port0 r) (fate P port1 r) (fine r) k s (didRead P p a s) (P .look (on (s .holds) p) a) (λ v. refl) h m n
   fine (block b ∷ r) k s h m n =
-      other-fine r (fate P port0 r) (fate P port1 r) (fine r) k s (λ w. (closes b (w .1), withMeter P (w .0) s)) (P .feed (s .meter) b) (λ w. refl) h m n
+      other-fine r (fate P port0 r) (fate P port1 r) (fine r) k s (didBlock P b s) (P .feed (s .meter) b) (λ w. refl) h m n
 
   -- ---- from a fresh module, where both desks are shut
 

@@ -9,5 +9,5 @@ pub mod Tidy
 pub mod Play
 pub mod OneCard
 pub mod Always
+pub mod Work
 pub mod Calls
-pub mod Day

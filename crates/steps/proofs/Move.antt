@@ -1,15 +1,14 @@
 -- Pass 2: with each read moved to just behind its hold, a sequence of which no step is refused runs as before.
-use Prim.Native.Nat.{ℕ}
 use mathlib.Core.Path.{_≡_, refl, ap, sym, _∙_}
 use mathlib.Core.List.{List, [], _∷_}
 use mathlib.Core.Option.{none, some}
 use Rattle.steps.specs.Answers.{OrRefusal, refused, accepted, andThen}
 use Rattle.steps.specs.Port.{Port, port0, port1, PerPort, on, onBoth, ifSame}
 use Rattle.steps.specs.Parts.{Parts}
-use Rattle.steps.specs.Module.{edit, commit, dropCard, hold, read, Step, atPort, block, State, withMeter, withDesk, withHeld, fresh, Report, silent, commits, tells, closes}
+use Rattle.steps.specs.Module.{edit, commit, dropCard, hold, read, Step, atPort, block, State, withHeld, fresh, Report, silent, commits, tells, closes, didEdit, didCommit, didDrop, didHold, didRead, didBlock, Done}
 use Rattle.steps.specs.Run.{Run, withRefusal, withReport, follow, run}
 use Rattle.steps.specs.Shorter.{readsAhead, readEach, moved}
-use Rattle.steps.proofs.Outcomes.{never, report-refusals, editing, committing, dropping, holding, reading, feeding}
+use Rattle.steps.proofs.Outcomes.{never, report-refusals}
 
 module _ (P : Parts) where
   -- ---- what reads at port p of the hold h add to a run
@@ -22,7 +21,7 @@ module _ (P : Parts) where
   answers p h [] r = r
   answers p h (a ∷ l) r = adds p a (P .look h a) (answers p h l r)
 
-  reads-one : (p : Port) (a : P .Address) (s : State P) (k : State P → Run P) (q : OrRefusal (P .Value)) → follow P (reading P p a s q) s k ≡ adds p a q (k s)
+  reads-one : (p : Port) (a : P .Address) (s : State P) (k : State P → Run P) (q : OrRefusal (P .Value)) → follow P (andThen q (didRead P p a s)) s k ≡ adds p a q (k s)
   reads-one p a s k (refused n) = refl
   reads-one p a s k (accepted v) = refl
 
@@ -90,7 +89,7 @@ module _ (P : Parts) where
     ahead p = readsAhead P p r
 
     -- a step that tells nothing and leaves both holds
-    other-even : {A : Type 0} (f : A → Report P × State P) (q : OrRefusal A) → ((a : A) → Apart port0 (f a .0)) → ((a : A) → Apart port1 (f a .0)) → ((a : A) → s .holds ≡ f a .1 .holds) →
+    other-even : {A : Type 0} (f : A → Done P) (q : OrRefusal A) → ((a : A) → Apart port0 (f a .0)) → ((a : A) → Apart port1 (f a .0)) → ((a : A) → s .holds ≡ f a .1 .holds) →
         follow P (andThen q f) s (run P r) .refusals ≡ 0 → both (s .holds) (ahead port0) (ahead port1) (follow P (andThen q f) s (run P (moved P r))) ≡ follow P (andThen q f) s (run P r)
     other-even f (refused n) i j e h = never h
     other-even f (accepted a) i j e h =
@@ -100,8 +99,8 @@ module _ (P : Parts) where
         ∙ ap (λ (z : PerPort (P .Held)). withReport P x (both z (ahead port0) (ahead port1) (run P (moved P r) t))) (e a)
         ∙ ap (withReport P x) (ih t (sym (report-refusals P x (run P r t)) ∙ h))
 
-    hold-even0 : (k : P .HoldKind) (q : OrRefusal (P .Held)) → follow P (holding P port0 k s q) s (run P r) .refusals ≡ 0 →
-        both (s .holds) [] (ahead port1) (follow P (holding P port0 k s q) s (run P (readEach P port0 (ahead port0) (moved P r)))) ≡ follow P (holding P port0 k s q) s (run P r)
+    hold-even0 : (k : P .HoldKind) (q : OrRefusal (P .Held)) → follow P (andThen q (didHold P port0 k s)) s (run P r) .refusals ≡ 0 →
+        both (s .holds) [] (ahead port1) (follow P (andThen q (didHold P port0 k s)) s (run P (readEach P port0 (ahead port0) (moved P r)))) ≡ follow P (andThen q (didHold P port0 k s)) s (run P r)
     hold-even0 k (refused n) h = never h
     hold-even0 k (accepted v) h =
         let t = withHeld P port0 v s in
@@ -111,8 +110,8 @@ module _ (P : Parts) where
         ∙ ap (λ (z : Run P). withReport P a (answers port1 u (ahead port1) z)) (reads-run port0 (ahead port0) (moved P r) t)
         ∙ ap (withReport P a) (answers-swap v u (ahead port0) (ahead port1) (run P (moved P r) t) ∙ ih t h)
 
-    hold-even1 : (k : P .HoldKind) (q : OrRefusal (P .Held)) → follow P (holding P port1 k s q) s (run P r) .refusals ≡ 0 →
-        both (s .holds) (ahead port0) [] (follow P (holding P port1 k s q) s (run P (readEach P port1 (ahead port1) (moved P r)))) ≡ follow P (holding P port1 k s q) s (run P r)
+    hold-even1 : (k : P .HoldKind) (q : OrRefusal (P .Held)) → follow P (andThen q (didHold P port1 k s)) s (run P r) .refusals ≡ 0 →
+        both (s .holds) (ahead port0) [] (follow P (andThen q (didHold P port1 k s)) s (run P (readEach P port1 (ahead port1) (moved P r)))) ≡ follow P (andThen q (didHold P port1 k s)) s (run P r)
     hold-even1 k (refused n) h = never h
     hold-even1 k (accepted v) h =
         let t = withHeld P port1 v s in
@@ -122,13 +121,13 @@ module _ (P : Parts) where
         ∙ ap (λ (z : Run P). withReport P a (answers port0 u (ahead port0) z)) (reads-run port1 (ahead port1) (moved P r) t)
         ∙ ap (withReport P a) (ih t h)
 
-    read-even0 : (a : P .Address) (q : OrRefusal (P .Value)) → follow P (reading P port0 a s q) s (run P r) .refusals ≡ 0 →
-        adds port0 a q (both (s .holds) (ahead port0) (ahead port1) (run P (moved P r) s)) ≡ follow P (reading P port0 a s q) s (run P r)
+    read-even0 : (a : P .Address) (q : OrRefusal (P .Value)) → follow P (andThen q (didRead P port0 a s)) s (run P r) .refusals ≡ 0 →
+        adds port0 a q (both (s .holds) (ahead port0) (ahead port1) (run P (moved P r) s)) ≡ follow P (andThen q (didRead P port0 a s)) s (run P r)
     read-even0 a (refused n) h = never h
     read-even0 a (accepted v) h = ap (withReport P (tells port0 (read a) v)) (ih s h)
 
-    read-even1 : (a : P .Address) (q : OrRefusal (P .Value)) → follow P (reading P port1 a s q) s (run P r) .refusals ≡ 0 →
-        answers port0 (s .holds .on0) (ahead port0) (adds port1 a q (answers port1 (s .holds .on1) (ahead port1) (run P (moved P r) s))) ≡ follow P (reading P port1 a s q) s (run P r)
+    read-even1 : (a : P .Address) (q : OrRefusal (P .Value)) → follow P (andThen q (didRead P port1 a s)) s (run P r) .refusals ≡ 0 →
+        answers port0 (s .holds .on0) (ahead port0) (adds port1 a q (answers port1 (s .holds .on1) (ahead port1) (run P (moved P r) s))) ≡ follow P (andThen q (didRead P port1 a s)) s (run P r)
     read-even1 a (refused n) h = never h
     read-even1 a (accepted v) h =
         answers-report port0 (s .holds .on0) (ahead port0) (tells port1 (read a) v) (answers port1 (s .holds .on1) (ahead port1) (run P (moved P r) s)) tt
@@ -138,16 +137,16 @@ module _ (P : Parts) where
   even [] s h = refl
   even (atPort none op ∷ r) s h = never h
   even (atPort (some p) (edit e) ∷ r) s h =
-      other-even r (even r) s (λ d. (silent, withDesk P p d s)) (P .edited (on (s .desks) p) e) (λ d. tt) (λ d. tt) (λ d. refl) h
+      other-even r (even r) s (didEdit P p s) (P .edited (on (s .desks) p) e) (λ d. tt) (λ d. tt) (λ d. refl) h
   even (atPort (some p) commit ∷ r) s h =
-      other-even r (even r) s (λ c. (commits c, withMeter P (P .wait c (s .meter)) (withDesk P p (P .shut) s))) (P .finished (on (s .desks) p)) (λ c. tt) (λ c. tt) (λ c. refl) h
+      other-even r (even r) s (didCommit P p s) (P .finished (on (s .desks) p)) (λ c. tt) (λ c. tt) (λ c. refl) h
   even (atPort (some p) dropCard ∷ r) s h =
-      other-even r (even r) s (λ u. (silent, withDesk P p (P .shut) s)) (P .discarded (on (s .desks) p)) (λ u. tt) (λ u. tt) (λ u. refl) h
+      other-even r (even r) s (didDrop P p s) (P .discarded (on (s .desks) p)) (λ u. tt) (λ u. tt) (λ u. refl) h
   even (atPort (some port0) (hold k) ∷ r) s h = hold-even0 r (even r) s k (P .copy k (s .meter)) h
   even (atPort (some port1) (hold k) ∷ r) s h = hold-even1 r (even r) s k (P .copy k (s .meter)) h
   even (atPort (some port0) (read a) ∷ r) s h = read-even0 r (even r) s a (P .look (s .holds .on0) a) h
   even (atPort (some port1) (read a) ∷ r) s h = read-even1 r (even r) s a (P .look (s .holds .on1) a) h
-  even (block b ∷ r) s h = other-even r (even r) s (λ w. (closes b (w .1), withMeter P (w .0) s)) (P .feed (s .meter) b) (λ w. tt) (λ w. tt) (λ w. refl) h
+  even (block b ∷ r) s h = other-even r (even r) s (didBlock P b s) (P .feed (s .meter) b) (λ w. tt) (λ w. tt) (λ w. refl) h
 
   -- ---- from a fresh module no read is left over in front, since where nothing is held a read is refused
 

@@ -1,8 +1,8 @@
 -- Each closed interval is worked with one card: the last one committed before its first sample.
-use Prim.Native.Nat.{ℕ, zero, suc}
+use Prim.Native.Nat.{ℕ, suc}
 use mathlib.Core.Path.{_≡_, refl, ap, ap₂, sym, _∙_}
 use mathlib.Core.Bool.{Bool, true, false, cond}
-use mathlib.Core.List.{List, [], _∷_, _++_, map, foldl, foldl-append}
+use mathlib.Core.List.{List, [], _∷_, _++_, map, foldl-append}
 use mathlib.Core.Option.{Option, none, some}
 use lib.ListN.{length}
 use Rattle.steps.specs.Answers.{OrRefusal, refused, accepted}

@@ -1,33 +1,13 @@
--- Names for what each step makes of its part's answer, so that a proof goes by cases of that answer; and a run with no refusal.
+-- Small facts about outcomes: what is refused was not accepted.
 use Prim.Native.Nat.{ℕ, suc}
 use native.Mathlib.Nat.{suc-ne-zero}
 use mathlib.Core.Path.{_≡_, refl, sym}
-use mathlib.Core.List.{List}
-use Rattle.steps.specs.Answers.{OrRefusal, refused, accepted, andThen}
-use Rattle.steps.specs.Port.{Port}
+use Rattle.steps.specs.Answers.{refused, accepted}
 use Rattle.steps.specs.Parts.{Parts}
-use Rattle.steps.specs.Module.{hold, read, State, withMeter, withDesk, withHeld, Report, silent, commits, tells, closes, Outcome}
+use Rattle.steps.specs.Module.{Report, silent, commits, tells, closes}
 use Rattle.steps.specs.Run.{Run, withReport}
 
 module _ (P : Parts) where
-  abbrev pub editing : Port → State P → OrRefusal (P .Desk) → Outcome P
-  editing p s q = andThen q (λ d. (silent, withDesk P p d s))
-
-  abbrev pub committing : Port → State P → OrRefusal (P .Card) → Outcome P
-  committing p s q = andThen q (λ c. (commits c, withMeter P (P .wait c (s .meter)) (withDesk P p (P .shut) s)))
-
-  abbrev pub dropping : Port → State P → OrRefusal (Unit {0}) → Outcome P
-  dropping p s q = andThen q (λ u. (silent, withDesk P p (P .shut) s))
-
-  abbrev pub holding : Port → P .HoldKind → State P → OrRefusal (P .Held) → Outcome P
-  holding p k s q = andThen q (λ h. (tells p (hold k) (P .told k h), withHeld P p h s))
-
-  abbrev pub reading : Port → P .Address → State P → OrRefusal (P .Value) → Outcome P
-  reading p a s q = andThen q (λ v. (tells p (read a) v, s))
-
-  abbrev pub feeding : P .Block → State P → OrRefusal (P .Meter × List (P .Closed)) → Outcome P
-  feeding b s q = andThen q (λ r. (closes b (r .1), withMeter P (r .0) s))
-
   -- an accepted step is no refusal
   pub report-refusals : (a : Report P) (r : Run P) → withReport P a r .refusals ≡ r .refusals
   report-refusals silent r = refl

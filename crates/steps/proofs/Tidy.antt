@@ -3,10 +3,10 @@ use mathlib.Core.Path.{_≡_, refl, ap, _∙_}
 use mathlib.Core.List.{List, [], _∷_, _++_}
 use mathlib.Core.Option.{Option, none, some}
 use Rattle.steps.specs.Answers.{refused, accepted}
-use Rattle.steps.specs.Port.{Port, port0, port1, PerPort, on, putOn, onBoth, ifSame}
+use Rattle.steps.specs.Port.{Port, port0, port1, on, putOn, onBoth}
 use Rattle.steps.specs.Parts.{Parts}
-use Rattle.steps.specs.Module.{Op, edit, commit, dropCard, hold, read, Step, atPort, block, State, Outcome, step}
-use Rattle.steps.specs.Shorter.{struckIf, struck, readsAhead, readEach, moved, Fate, staysOpen, willCommit, willDrop, Act, plain, card, editEach, stepsOf, fate, Drafts, drawnEdit, drawn, shorter}
+use Rattle.steps.specs.Module.{edit, commit, dropCard, hold, read, Step, atPort, block, State, Outcome, step}
+use Rattle.steps.specs.Shorter.{struckIf, struck, readsAhead, readEach, moved, Fate, staysOpen, willCommit, willDrop, Act, editEach, stepsOf, fate, Drafts, drawnEdit, drawn}
 use Rattle.steps.specs.Tidy.{NoCard, TidyBehind, landmarks, InOrder}
 use Rattle.steps.proofs.Outcomes.{zero-one}
 use Rattle.steps.proofs.Cards.{moved-cards, drawn-cards}

@@ -1,12 +1,11 @@
--- What holds of a meter and of all the intervals that it has closed, at the end of every sequence of steps: for the rules over the
--- whole history of closes, as the energy rule. To use: make a `LastingWork` (or a `Lasting`), and cite `always-work` (`always`).
+-- What holds of a meter and of all the intervals that it has closed, at the end of every sequence of steps. To use: make a `Lasting`,
+-- and cite `always` (proofs/Always.antt).
 use mathlib.Core.Path.{_≡_}
-use mathlib.Core.List.{List, [], _∷_, _++_}
+use mathlib.Core.List.{List, [], _++_}
 use Rattle.steps.specs.Answers.{accepted}
 use Rattle.steps.specs.Parts.{Parts}
 use Rattle.steps.specs.Module.{Step, State}
 use Rattle.steps.specs.Run.{run}
-use Rattle.steps.specs.Gauge.{Gauge, Ports, Meter, partsOf}
 
 module _ (P : Parts) where
   -- a fact about a meter and the intervals closed so far, which a committed card and an accepted block keep
@@ -17,16 +16,3 @@ module _ (P : Parts) where
 
   abbrev pub Always : Lasting → State P → List (Step P) → Type 0
   Always L s xs = L .Of (s .meter) [] → L .Of (run P xs s .end .meter) (run P xs s .closed)
-
-module _ (G : Gauge) where
-  open Gauge G using (Card, Sample, Work, Closed, start, add, close)
-
-  -- the same for the work of a gauge: a fact that an interval's start, each sample and each close keep
-  pub record LastingWork : Type 1 where
-    pub Of : Work → List Closed → Type 0
-    pub on-start : (c : Card) (w : Work) (h : List Closed) → Of w h → Of (start c w) h
-    pub on-add : (c : Card) (w : Work) (x : Sample) (h : List Closed) → Of w h → Of (add c w x) h
-    pub on-close : (c : Card) (w : Work) (h : List Closed) → Of w h → Of (close c w .0) (h ++ (close c w .1 ∷ []))
-
-  abbrev pub AlwaysWork : LastingWork → (D : Ports (Meter G) Card) → State (partsOf G D) → List (Step (partsOf G D)) → Type 0
-  AlwaysWork L D s xs = L .Of (s .meter .work) [] → L .Of (run (partsOf G D) xs s .end .meter .work) (run (partsOf G D) xs s .closed)

@@ -1,13 +1,16 @@
 -- A day at the site, the worked example: a sequence of steps by both ports and the sample feed, its shorter sequence, and what comes
--- of them. (proofs/Day.antt computes that it is so.)
+-- of them, all computed.
 use Prim.Native.Nat.{ℕ}
+use mathlib.Core.Path.{_≡_, refl}
 use mathlib.Core.List.{List, [], _∷_}
 use mathlib.Core.Option.{none, some}
 use Rattle.steps.specs.Port.{port0, port1, PerPort}
 use Rattle.steps.specs.Module.{Op, edit, commit, dropCard, hold, read, Step, atPort, block}
-use Rattle.steps.specs.Shorter.{Act, plain, card}
-use Rattle.steps.specs.OneCard.{Interval}
-use Rattle.steps.specs.Site.{Serial, Closed, core, openWith, writeGain, total, energy, other, Value, interval, number, site}
+use Rattle.steps.specs.Run.{Run, run}
+use Rattle.steps.specs.Shorter.{Act, plain, card, stepsOf, shorter}
+use Rattle.steps.specs.Gauge.{inForce}
+use Rattle.steps.specs.OneCard.{Interval, tagged, intervals}
+use Rattle.steps.specs.Site.{Serial, Card, Closed, core, openWith, writeGain, total, energy, other, Value, interval, number, ports, site, morning}
 
 -- ---- The day. Port 0 is the fitter's, port 1 the panel's, where the site's reader works.
 
@@ -89,14 +92,54 @@ closedOf n s t = record { number = n; serial = s; total = t }
 abbrev pub dayClosed : List Closed
 dayClosed = closedOf 1 s0417 14 ∷ closedOf 2 s0417 12 ∷ closedOf 3 s601 49 ∷ []
 
+abbrev pub card0417 : Card
+card0417 = record { serial = s0417; gain = 2 }
+
+abbrev pub card601 : Card
+card601 = record { serial = s601; gain = 7 }
+
 abbrev pub dayIntervals : List (Interval core)
 dayIntervals =
-    record { card = record { serial = s0417; gain = 2 }; samples = 3 ∷ 4 ∷ [] } ∷
-    record { card = record { serial = s0417; gain = 2 }; samples = 5 ∷ 1 ∷ [] } ∷
-    record { card = record { serial = s601; gain = 7 }; samples = 6 ∷ 1 ∷ [] } ∷ []
+    record { card = card0417; samples = 3 ∷ 4 ∷ [] } ∷
+    record { card = card0417; samples = 5 ∷ 1 ∷ [] } ∷
+    record { card = card601; samples = 6 ∷ 1 ∷ [] } ∷ []
 
 abbrev pub dayHeard : PerPort (List (Op site × Value))
 dayHeard = record {
   on0 = (hold tt, interval 1 s0417) ∷ (read energy, number 14) ∷ [];
   on1 = (hold tt, interval 1 s0417) ∷ (read total, number 14) ∷ (hold tt, interval 3 s601) ∷ (read energy, number 75) ∷ (read total, number 49) ∷ [];
 }
+
+-- ---- Computed.
+
+abbrev pub wholeRun : Run site
+wholeRun = run site day morning
+
+abbrev pub shorterRun : Run site
+shorterRun = run site (stepsOf site shorterDay) morning
+
+shortens : shorter site morning day ≡ shorterDay
+shortens = refl
+
+-- eight steps of the day are refused (18, 9, 13, 12, 14, 15, 16, 8), and none of the shorter day
+refuses : (wholeRun .refusals ≡ 8) × (shorterRun .refusals ≡ 0)
+refuses = (refl, refl)
+
+closes : (wholeRun .closed ≡ dayClosed) × (shorterRun .closed ≡ dayClosed)
+closes = (refl, refl)
+
+tells : (wholeRun .heard ≡ dayHeard) × (shorterRun .heard ≡ dayHeard)
+tells = (refl, refl)
+
+counts : (wholeRun .end .meter .work .energy ≡ 75) × (shorterRun .end .meter .work .energy ≡ 75)
+counts = (refl, refl)
+
+in-force : (inForce core (wholeRun .end .meter) ≡ some card601) × (inForce core (shorterRun .end .meter) ≡ some card601)
+in-force = (refl, refl)
+
+ends : shorterRun .end ≡ wholeRun .end
+ends = refl
+
+-- the rule, from the history alone: three intervals, each with one card
+cuts : intervals core (tagged core ports none (wholeRun .history)) (record { left = record { sum = 0; energy = 0; latest = none }; running = none }) ≡ dayIntervals
+cuts = refl

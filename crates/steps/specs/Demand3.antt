@@ -1,5 +1,4 @@
 -- Demand 3, for any sequence of steps from a fresh module, by both ports and the sample feed.
-use Prim.Native.Nat.{ℕ}
 use mathlib.Core.Path.{_≡_}
 use mathlib.Core.List.{List}
 use Rattle.steps.specs.Port.{Port, on}

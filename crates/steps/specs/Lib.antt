@@ -10,6 +10,7 @@ pub mod Tidy
 pub mod Gauge
 pub mod OneCard
 pub mod Always
+pub mod Work
 pub mod Calls
 pub mod Site
 pub mod Day

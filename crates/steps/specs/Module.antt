@@ -45,19 +45,45 @@ module _ (P : Parts) where
   abbrev pub withHeld : Port → Held → State → State
   withHeld p h s = record { meter = s .meter; desks = s .desks; holds = putOn p h (s .holds) }
 
-  abbrev pub Outcome : Type 0
-  Outcome = OrRefusal (Report × State)
+  -- ---- what an accepted step reports, and the state that it leaves
 
-  -- A commit shuts the desk and leaves the card waiting in the meter. A hold replaces the port's earlier one. A read answers from the
-  -- latest hold on its own port, and from nothing else.
+  abbrev pub Done : Type 0
+  Done = Report × State
+
+  abbrev pub didEdit : Port → State → Desk → Done
+  didEdit p s d = (silent, withDesk p d s)
+
+  -- the card waits, and the desk is shut
+  abbrev pub didCommit : Port → State → Card → Done
+  didCommit p s c = (commits c, withMeter (wait c (s .meter)) (withDesk p shut s))
+
+  abbrev pub didDrop : Port → State → Unit {0} → Done
+  didDrop p s u = (silent, withDesk p shut s)
+
+  -- the port's earlier hold is replaced
+  abbrev pub didHold : Port → HoldKind → State → Held → Done
+  didHold p k s h = (tells p (hold k) (told k h), withHeld p h s)
+
+  abbrev pub didRead : Port → Address → State → Value → Done
+  didRead p a s v = (tells p (read a) v, s)
+
+  abbrev pub didBlock : Block → State → Meter × List Closed → Done
+  didBlock b s r = (closes b (r .1), withMeter (r .0) s)
+
+  -- ---- a step: its part is asked, and what that refuses, the step refuses
+
+  abbrev pub Outcome : Type 0
+  Outcome = OrRefusal Done
+
+  -- a read answers from the latest hold on its own port, and from nothing else
   abbrev pub stepAt : Port → Op → State → Outcome
-  stepAt p (edit e) s = andThen (edited (on (s .desks) p) e) (λ d. (silent, withDesk p d s))
-  stepAt p commit s = andThen (finished (on (s .desks) p)) (λ c. (commits c, withMeter (wait c (s .meter)) (withDesk p shut s)))
-  stepAt p dropCard s = andThen (discarded (on (s .desks) p)) (λ u. (silent, withDesk p shut s))
-  stepAt p (hold k) s = andThen (copy k (s .meter)) (λ h. (tells p (hold k) (told k h), withHeld p h s))
-  stepAt p (read a) s = andThen (look (on (s .holds) p) a) (λ v. (tells p (read a) v, s))
+  stepAt p (edit e) s = andThen (edited (on (s .desks) p) e) (didEdit p s)
+  stepAt p commit s = andThen (finished (on (s .desks) p)) (didCommit p s)
+  stepAt p dropCard s = andThen (discarded (on (s .desks) p)) (didDrop p s)
+  stepAt p (hold k) s = andThen (copy k (s .meter)) (didHold p k s)
+  stepAt p (read a) s = andThen (look (on (s .holds) p) a) (didRead p a s)
 
   abbrev pub step : Step → State → Outcome
   step (atPort none op) s = refused 8
   step (atPort (some p) op) s = stepAt p op s
-  step (block b) s = andThen (feed (s .meter) b) (λ r. (closes b (r .1), withMeter (r .0) s))
+  step (block b) s = andThen (feed (s .meter) b) (didBlock b s)
