@@ -1,0 +1,13 @@
+-- The theorems, in reading order.
+pub mod Outcomes
+pub mod Strike
+pub mod Move
+pub mod Draw
+pub mod Demand3
+pub mod Cards
+pub mod Tidy
+pub mod Play
+pub mod OneCard
+pub mod Always
+pub mod Work
+pub mod Calls
