@@ -8,6 +8,8 @@ pub mod Cards
 pub mod Tidy
 pub mod Play
 pub mod OneCard
+pub mod AllSamples
+pub mod Promise
 pub mod Always
 pub mod Work
 pub mod Calls

@@ -9,6 +9,7 @@ pub mod Demand3
 pub mod Tidy
 pub mod Gauge
 pub mod OneCard
+pub mod Promise
 pub mod Always
 pub mod Work
 pub mod Calls
