@@ -13,3 +13,4 @@ pub mod Promise
 pub mod Always
 pub mod Work
 pub mod Calls
+pub mod Site
