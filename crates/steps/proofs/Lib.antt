@@ -6,7 +6,7 @@ pub mod Draw
 pub mod Demand3
 pub mod Cards
 pub mod Tidy
-pub mod Play
+pub mod History
 pub mod OneCard
 pub mod AllSamples
 pub mod Promise

@@ -9,8 +9,9 @@ use Rattle.steps.specs.Answers.{OrRefusal, refused, accepted}
 use Rattle.steps.specs.Module.{Step, fresh}
 use Rattle.steps.specs.Run.{Event, committed, fed, run}
 use Rattle.steps.specs.Gauge.{Gauge, Ports, Meter, new, inForce, latest, waitOver, workedOn, begun, closing, joins, begins, closesBefore, sample, samples, feeds, partsOf}
-use Rattle.steps.specs.OneCard.{Tagged, tagBlock, tagged, Interval, sumsOf, worked, workedAll, firstOf, moreOf, Place, cutIfFull, cutBefore, cutAt, intervals, OneCard}
-use Rattle.steps.proofs.Play.{played, play, run-plays}
+use Rattle.steps.specs.OneCard.{Tagged, tagBlock, tagged, Interval, sumsOf, worked, workedAll, firstOf, moreOf, Place, cutIfFull, cutBefore, cutAt, intervals, OneCardHistory, OneCard}
+use Rattle.steps.specs.History.{played, play}
+use Rattle.steps.proofs.History.{history-decides}
 
 length-snoc : {A : Type 0} (l : List A) (x : A) → length (l ++ (x ∷ [])) ≡ suc (length l)
 length-snoc [] x = refl
@@ -140,7 +141,10 @@ module _ (G : Gauge) (D : Ports (Meter G) (G .Card)) where
       by (accepted xs) none k′ ih = ih m w i none k′ q
       by (accepted xs) (some c) k′ ih = cuts c h (λ m′ w′ i′ k″ q′. ih m′ w′ i′ (some c) k″ q′) xs m w i k′ q
 
+  pub one-card-history : (blank : Card) (w : Work) (h : List (Event (partsOf G D))) → OneCardHistory G D blank w h
+  one-card-history blank w h = rules h (new G blank w) w none none refl (refl, refl)
+
   pub one-card : (blank : Card) (w : Work) (xs : List (Step (partsOf G D))) → OneCard G D blank w xs
   one-card blank w xs =
       let s = fresh (partsOf G D) (new G blank w) in
-      run-plays (partsOf G D) xs s ∙ rules (run (partsOf G D) xs s .history) (new G blank w) w none none refl (refl, refl)
+      history-decides (partsOf G D) s xs ∙ one-card-history blank w (run (partsOf G D) xs s .history)

@@ -7,6 +7,7 @@ pub mod Run
 pub mod Shorter
 pub mod Demand3
 pub mod Tidy
+pub mod History
 pub mod Gauge
 pub mod OneCard
 pub mod Promise

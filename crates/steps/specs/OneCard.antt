@@ -8,6 +8,7 @@ use lib.ListN.{length}
 use Rattle.steps.specs.Answers.{OrRefusal, refused, accepted}
 use Rattle.steps.specs.Module.{Step, fresh}
 use Rattle.steps.specs.Run.{Event, committed, fed, run}
+use Rattle.steps.specs.History.{play}
 use Rattle.steps.specs.Gauge.{Gauge, Ports, Meter, new, partsOf}
 
 module _ (G : Gauge) where
@@ -81,7 +82,10 @@ module _ (G : Gauge) where
   abbrev pub outset : Work → Place
   outset w = record { left = w; running = none }
 
-  -- ---- So it is, for every sequence of steps from a fresh module.
+  -- ---- So it is, for every history and for every sequence of steps from a fresh module.
+
+  abbrev pub OneCardHistory : (D : Ports (Meter G) Card) → Card → Work → List (Event (partsOf G D)) → Type 0
+  OneCardHistory D blank w h = play (partsOf G D) h (new G blank w) ≡ workedAll (intervals (tagged D none h) (outset w)) w
 
   abbrev pub OneCard : (D : Ports (Meter G) Card) → Card → Work → List (Step (partsOf G D)) → Type 0
   OneCard D blank w xs =
