@@ -6,8 +6,11 @@ pub mod Draw
 pub mod Demand3
 pub mod Cards
 pub mod Tidy
-pub mod Play
+pub mod History
 pub mod OneCard
+pub mod AllSamples
+pub mod Promise
 pub mod Always
 pub mod Work
 pub mod Calls
+pub mod Site

@@ -9,15 +9,16 @@ use Rattle.steps.specs.Answers.{OrRefusal, refused, accepted}
 use Rattle.steps.specs.Module.{Step, fresh}
 use Rattle.steps.specs.Run.{Event, committed, fed, run}
 use Rattle.steps.specs.Gauge.{Gauge, Ports, Meter, new, inForce, latest, waitOver, workedOn, begun, closing, joins, begins, closesBefore, sample, samples, feeds, partsOf}
-use Rattle.steps.specs.OneCard.{Tagged, tagBlock, tagged, Interval, sumsOf, worked, workedAll, firstOf, moreOf, Place, cutIfFull, cutBefore, cutAt, intervals, OneCard}
-use Rattle.steps.proofs.Play.{played, play, run-plays}
+use Rattle.steps.specs.OneCard.{Tagged, tagBlock, tagged, Interval, sumsOf, worked, workedAll, firstOf, moreOf, Place, cutIfFull, cutBefore, cutAt, intervals, OneCardHistory, OneCard}
+use Rattle.steps.specs.History.{played, play}
+use Rattle.steps.proofs.History.{history-decides}
 
 length-snoc : {A : Type 0} (l : List A) (x : A) → length (l ++ (x ∷ [])) ≡ suc (length l)
 length-snoc [] x = refl
 length-snoc (y ∷ l) x = ap suc (length-snoc l x)
 
 module _ (G : Gauge) (D : Ports (Meter G) (G .Card)) where
-  open Gauge G using (Card, Sample, Work, Closed, fits, start, add, breaks, full, close)
+  open Gauge G using (Card, Sample, Work, Closed, samplesOf, startInterval, addSample, breaks, full, closeInterval)
 
   abbrev with-card : Card → List Sample → Interval G
   with-card c xs = record { card = c; samples = xs }
@@ -74,8 +75,8 @@ module _ (G : Gauge) (D : Ports (Meter G) (G .Card)) where
           let i = with-card (m .force) ys in
           goes (cond b (closing G w m) (workedOn G (suc n) w m, [])) ≡ rule w₀ (cond b (place (worked G i w₀ .0) none, i ∷ []) (place w₀ (some i), []))
       joined-goes true n ys w₀ w m l e k f =
-          ap (λ (z : List Closed). close (m .force) w .1 ∷ z) (ih (workedOn G 0 (close (m .force) w .0) m) (close (m .force) w .0) none k (refl, refl))
-          ∙ ap (λ (z : Work). close (m .force) z .1 ∷ rule (close (m .force) z .0) (place (close (m .force) z .0) none, [])) (sym e)
+          ap (λ (z : List Closed). closeInterval (m .force) w .1 ∷ z) (ih (workedOn G 0 (closeInterval (m .force) w .0) m) (closeInterval (m .force) w .0) none k (refl, refl))
+          ∙ ap (λ (z : Work). closeInterval (m .force) z .1 ∷ rule (closeInterval (m .force) z .0) (place (closeInterval (m .force) z .0) none, [])) (sym e)
       joined-goes false n ys w₀ w m l e k f = ih (workedOn G (suc n) w m) w₀ (some (with-card (m .force) ys)) k (n, refl, l, f, refl, e)
 
       joins-goes : (n : ℕ) (ys : List Sample) (w₀ w : Work) (m : Meter G) (x : Sample) →
@@ -85,15 +86,15 @@ module _ (G : Gauge) (D : Ports (Meter G) (G .Card)) where
           let c = m .force in
           let i = with-card c (ys ++ (x ∷ [])) in
           let l′ : length (ys ++ (x ∷ [])) ≡ suc n = length-snoc ys x ∙ ap suc l in
-          let e′ : sumsOf G i w₀ ≡ add c w x = foldl-append (add c) (start c w₀) ys (x ∷ []) ∙ ap (λ (z : Work). add c z x) e in
-          joined-goes (full c (suc n) (add c w x)) n (ys ++ (x ∷ [])) w₀ (add c w x) m l′ e′ k f
+          let e′ : sumsOf G i w₀ ≡ addSample c w x = foldl-append (addSample c) (startInterval c w₀) ys (x ∷ []) ∙ ap (λ (z : Work). addSample c z x) e in
+          joined-goes (full c (suc n) (addSample c w x)) n (ys ++ (x ∷ [])) w₀ (addSample c w x) m l′ e′ k f
           ∙ ap₂ (λ (z : ℕ) (u : Work). rule w₀ (cond (full c z u) (place (worked G i w₀ .0) none, i ∷ []) (place w₀ (some i), []))) (sym l′) (sym e′)
 
       begins-goes : (m : Meter G) (x : Sample) → latest G m ≡ some t → goes (begins G m x) ≡ rule (m .work) (cutIfFull G (firstOf G (t, x)) (m .work))
       begins-goes m x k =
           let q = begun G m in
           let b = begun-is (m .waits) m refl k in
-          joins-goes 0 [] (q .work) (start (q .force) (q .work)) q x refl refl (b .0) (b .1)
+          joins-goes 0 [] (q .work) (startInterval (q .force) (q .work)) q x refl refl (b .0) (b .1)
           ∙ ap₂ (λ (c : Card) (w : Work). rule w (cutIfFull G (with-card c (x ∷ [])) w)) (b .2) (b .3)
 
       -- a sample in the middle of an interval, which closes before it or not
@@ -101,8 +102,8 @@ module _ (G : Gauge) (D : Ports (Meter G) (G .Card)) where
           length (i .samples) ≡ n → m .forced ≡ true → m .force ≡ i .card → sumsOf G i w₀ ≡ m .work → latest G m ≡ some t →
           goes (cond b (closesBefore G m x) (joins G n (m .work) m x)) ≡ rule w₀ (cond b (cutBefore G i w₀ (t, x)) (cutIfFull G (moreOf G i (t, x)) w₀))
       goes-on true n m i w₀ x l f c e k =
-          ap (λ (z : List Closed). close (m .force) (m .work) .1 ∷ z) (begins-goes (workedOn G 0 (close (m .force) (m .work) .0) m) x k)
-          ∙ ap₂ (λ (c : Card) (z : Work). close c z .1 ∷ rule (close c z .0) (cutIfFull G (firstOf G (t, x)) (close c z .0))) c (sym e)
+          ap (λ (z : List Closed). closeInterval (m .force) (m .work) .1 ∷ z) (begins-goes (workedOn G 0 (closeInterval (m .force) (m .work) .0) m) x k)
+          ∙ ap₂ (λ (c : Card) (z : Work). closeInterval c z .1 ∷ rule (closeInterval c z .0) (cutIfFull G (firstOf G (t, x)) (closeInterval c z .0))) c (sym e)
       goes-on false n m i w₀ x l f c e k =
           joins-goes n (i .samples) w₀ (m .work) m x l (ap (λ (c : Card). sumsOf G (with-card c (i .samples)) w₀) c ∙ e) k f
           ∙ ap (λ (c : Card). rule w₀ (cutIfFull G (with-card c (i .samples ++ (x ∷ []))) w₀)) c
@@ -132,7 +133,7 @@ module _ (G : Gauge) (D : Ports (Meter G) (G .Card)) where
   rules : (h : List (Event (partsOf G D))) → Rules h
   rules [] m w i t k q = refl
   rules (committed c ∷ h) m w i t k q = rules h (partsOf G D .wait c m) w i (some c) refl (match-wait c m w i q)
-  rules (fed b ∷ h) m w i t k q = rw k (by (fits b) t k (rules h))
+  rules (fed b ∷ h) m w i t k q = rw k (by (samplesOf b) t k (rules h))
     where
       by : (r : OrRefusal (List Sample)) (t : Option Card) → latest G m ≡ t → Rules h →
           played (partsOf G D) (feeds G r t m) m (play (partsOf G D) h) ≡ workedAll G (intervals G (tagBlock G t r (tagged G D t h)) (place w i)) w
@@ -140,7 +141,10 @@ module _ (G : Gauge) (D : Ports (Meter G) (G .Card)) where
       by (accepted xs) none k′ ih = ih m w i none k′ q
       by (accepted xs) (some c) k′ ih = cuts c h (λ m′ w′ i′ k″ q′. ih m′ w′ i′ (some c) k″ q′) xs m w i k′ q
 
+  pub one-card-history : (blank : Card) (w : Work) (h : List (Event (partsOf G D))) → OneCardHistory G D blank w h
+  one-card-history blank w h = rules h (new G blank w) w none none refl (refl, refl)
+
   pub one-card : (blank : Card) (w : Work) (xs : List (Step (partsOf G D))) → OneCard G D blank w xs
   one-card blank w xs =
       let s = fresh (partsOf G D) (new G blank w) in
-      run-plays (partsOf G D) xs s ∙ rules (run (partsOf G D) xs s .history) (new G blank w) w none none refl (refl, refl)
+      history-decides (partsOf G D) s xs ∙ one-card-history blank w (run (partsOf G D) xs s .history)

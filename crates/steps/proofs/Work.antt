@@ -13,7 +13,7 @@ use Rattle.steps.proofs.Outcomes.{refused-never, accepted-is}
 use Rattle.steps.proofs.Always.{always}
 
 module _ (G : Gauge) (L : LastingWork G) where
-  open Gauge G using (Card, Sample, Work, Closed, start, add, breaks, full, close)
+  open Gauge G using (Card, Sample, Work, Closed, startInterval, addSample, breaks, full, closeInterval)
   open LastingWork L using (Of, on-start, on-add, on-close)
 
   abbrev After : Meter G × List Closed → List Closed → Type 0
@@ -26,7 +26,7 @@ module _ (G : Gauge) (L : LastingWork G) where
   joins-keeps : (n : ℕ) (w : Work) (m : Meter G) (x : Sample) (h : List Closed) → Of w h → After (joins G n w m x) h
   joins-keeps n w m x h i =
       let c = m .force in
-      let v = add c w x in
+      let v = addSample c w x in
       let j = on-add c w x h i in
       cond-keeps (full c (suc n) v) (closing G v m) (workedOn G (suc n) v m, []) h (on-close c v h j) (subst (Of v) (sym (append-nil h)) j)
 
@@ -37,7 +37,7 @@ module _ (G : Gauge) (L : LastingWork G) where
   begins-keeps : (m : Meter G) (x : Sample) (h : List Closed) → Of (m .work) h → After (begins G m x) h
   begins-keeps m x h i =
       let b = begun G m in
-      joins-keeps 0 (start (b .force) (b .work)) b x h (on-start (b .force) (b .work) h (begun-keeps (m .waits) m h i))
+      joins-keeps 0 (startInterval (b .force) (b .work)) b x h (on-start (b .force) (b .work) h (begun-keeps (m .waits) m h i))
 
   -- two pieces, one after the other
   then-keeps : (h k l : List Closed) (w : Work) → Of w ((h ++ k) ++ l) → Of w (h ++ (k ++ l))
@@ -69,7 +69,7 @@ module _ (G : Gauge) (L : LastingWork G) where
   lasting D = record {
     Of = λ m h. Of (m .work) h;
     on-wait = λ c m h i. i;
-    on-feed = λ m h b r e i. feeds-keep (G .fits b) (latest G m) m h r e i;
+    on-feed = λ m h b r e i. feeds-keep (G .samplesOf b) (latest G m) m h r e i;
   }
 
   pub always-work : (D : Ports (Meter G) Card) (s : State (partsOf G D)) (xs : List (Step (partsOf G D))) → AlwaysWork G L D s xs

@@ -72,6 +72,7 @@ module _ (P : Parts) where
         pub heard : PerPort (List (Op P × P .Value))  -- each port's holds and reads with the values that they returned
         pub end : Kept
 
+      -- (only a hold or a read at a port returns a value: the last two cases do not occur)
       abbrev pub noted : Step P → Reply → Log → Log
       noted x (refuses n) l = record { refusals = suc (l .refusals); heard = l .heard; end = l .end }
       noted x done l = l
@@ -91,6 +92,7 @@ module _ (P : Parts) where
 
       -- demand 3 of the calls, from a fresh module z
       pub record CallsDemand3 (m : P .Meter) (z : Kept) (xs : List (Step P)) : Type 0 where
+        -- none is refused, every hold and read returns the same, and the struct is left in the same state
         pub none-refused : calls (stepsOf P (shorter P (fresh P m) xs)) z .refusals ≡ 0
         pub same-values : (p : Port) → on (calls (stepsOf P (shorter P (fresh P m) xs)) z .heard) p ≡ on (calls xs z .heard) p
         pub same-state : seen (calls (stepsOf P (shorter P (fresh P m) xs)) z .end) ≡ seen (calls xs z .end)

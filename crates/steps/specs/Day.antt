@@ -9,7 +9,7 @@ use Rattle.steps.specs.Module.{Op, edit, commit, dropCard, hold, read, S
 use Rattle.steps.specs.Run.{Run, run}
 use Rattle.steps.specs.Shorter.{Act, plain, card, stepsOf, shorter}
 use Rattle.steps.specs.Gauge.{inForce}
-use Rattle.steps.specs.OneCard.{Interval, tagged, intervals}
+use Rattle.steps.specs.OneCard.{Interval, tagged, intervals, outset}
 use Rattle.steps.specs.Site.{Serial, Card, Closed, core, openWith, writeGain, total, energy, other, Value, interval, number, ports, site, morning}
 
 -- ---- The day. Port 0 is the fitter's, port 1 the panel's, where the site's reader works.
@@ -141,5 +141,5 @@ ends : shorterRun .end ≡ wholeRun .end
 ends = refl
 
 -- the rule, from the history alone: three intervals, each with one card
-cuts : intervals core (tagged core ports none (wholeRun .history)) (record { left = record { sum = 0; energy = 0; latest = none }; running = none }) ≡ dayIntervals
+cuts : intervals core (tagged core ports none (wholeRun .history)) (outset core (morning .meter .work)) ≡ dayIntervals
 cuts = refl

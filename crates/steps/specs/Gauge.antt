@@ -15,12 +15,12 @@ pub record Gauge : Type 1 where
   pub Sample : Type 0  -- one voltage and one current
   pub Work : Type 0  -- start settings, the sums of the interval, and what outlives it: registers, energy, the previous raw sample
   pub Closed : Type 0  -- a closed interval with all its registers
-  pub fits : Block → OrRefusal (List Sample)  -- the samples of a well-formed block; 5, 6
-  pub start : Card → Work → Work  -- the sums at an interval's beginning
-  pub add : Card → Work → Sample → Work  -- a sample, corrected with the card, joins the sums
+  pub samplesOf : Block → OrRefusal (List Sample)  -- the samples of a well-formed block; 5, 6
+  pub startInterval : Card → Work → Work  -- the sums at an interval's beginning
+  pub addSample : Card → Work → Sample → Work  -- a sample, corrected with the card, joins the sums
   pub breaks : Card → ℕ → Work → Sample → Bool  -- does the interval of so many samples close before this one? (document 01: never)
   pub full : Card → ℕ → Work → Bool  -- does it close with the sample just added? (document 01: with the Nth)
-  pub close : Card → Work → Work × Closed  -- what is made of the sums
+  pub closeInterval : Card → Work → Work × Closed  -- what is made of the sums
 
 -- what stands at the ports, as in `Parts`
 pub record Ports (Meter Card : Type 0) : Type 1 where
@@ -41,7 +41,7 @@ pub record Ports (Meter Card : Type 0) : Type 1 where
   pub unheld-refuses : (a : Address) → (n : ℕ) × (look unheld a ≡ refused n)
 
 module _ (G : Gauge) where
-  open Gauge G using (Card, Block, Sample, Work, Closed, fits, start, add, breaks, full, close)
+  open Gauge G using (Card, Block, Sample, Work, Closed, samplesOf, startInterval, addSample, breaks, full, closeInterval)
 
   -- `waiting` counts only while `waits`, `force` only once `forced`
   pub record Meter : Type 0 where
@@ -79,15 +79,15 @@ module _ (G : Gauge) where
 
   -- the interval closes; from here on the number of samples is 0 again
   abbrev pub closing : Work → Meter → Meter × List Closed
-  closing w m = let r = close (m .force) w in (workedOn 0 (r .0) m, r .1 ∷ [])
+  closing w m = let r = closeInterval (m .force) w in (workedOn 0 (r .0) m, r .1 ∷ [])
 
   -- the sample x joins the interval, which had n samples and the sums w, and closes it if that fills it
   abbrev pub joins : ℕ → Work → Meter → Sample → Meter × List Closed
-  joins n w m x = let v = add (m .force) w x in cond (full (m .force) (suc n) v) (closing v m) (workedOn (suc n) v m, [])
+  joins n w m x = let v = addSample (m .force) w x in cond (full (m .force) (suc n) v) (closing v m) (workedOn (suc n) v m, [])
 
   -- the sample x is the first of an interval
   abbrev pub begins : Meter → Sample → Meter × List Closed
-  begins m x = let b = begun m in joins 0 (start (b .force) (b .work)) b x
+  begins m x = let b = begun m in joins 0 (startInterval (b .force) (b .work)) b x
 
   -- the interval closes before the sample x, which is the first of the next
   abbrev pub closesBefore : Meter → Sample → Meter × List Closed
@@ -131,5 +131,5 @@ module _ (G : Gauge) where
     told = D .told;
     look = D .look;
     unheld-refuses = D .unheld-refuses;
-    feed = λ m b. feeds (fits b) (latest m) m;
+    feed = λ m b. feeds (samplesOf b) (latest m) m;
   }

@@ -7,8 +7,10 @@ pub mod Run
 pub mod Shorter
 pub mod Demand3
 pub mod Tidy
+pub mod History
 pub mod Gauge
 pub mod OneCard
+pub mod Promise
 pub mod Always
 pub mod Work
 pub mod Calls

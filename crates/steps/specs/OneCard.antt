@@ -8,10 +8,11 @@ use lib.ListN.{length}
 use Rattle.steps.specs.Answers.{OrRefusal, refused, accepted}
 use Rattle.steps.specs.Module.{Step, fresh}
 use Rattle.steps.specs.Run.{Event, committed, fed, run}
+use Rattle.steps.specs.History.{play}
 use Rattle.steps.specs.Gauge.{Gauge, Ports, Meter, new, partsOf}
 
 module _ (G : Gauge) where
-  open Gauge G using (Card, Sample, Work, Closed, fits, start, add, breaks, full, close)
+  open Gauge G using (Card, Sample, Work, Closed, samplesOf, startInterval, addSample, breaks, full, closeInterval)
 
   -- ---- Each sample goes with the card committed last before it.
 
@@ -26,7 +27,7 @@ module _ (G : Gauge) where
   abbrev pub tagged : (D : Ports (Meter G) Card) → Option Card → List (Event (partsOf G D)) → List Tagged
   tagged D c [] = []
   tagged D c (committed d ∷ h) = tagged D (some d) h
-  tagged D c (fed b ∷ h) = tagBlock c (fits b) (tagged D c h)
+  tagged D c (fed b ∷ h) = tagBlock c (samplesOf b) (tagged D c h)
 
   -- ---- An interval is one card and its samples, all worked with that card.
 
@@ -36,10 +37,10 @@ module _ (G : Gauge) where
 
   -- its sums; w is what the intervals before it left
   abbrev pub sumsOf : Interval → Work → Work
-  sumsOf i w = foldl (add (i .card)) (start (i .card) w) (i .samples)
+  sumsOf i w = foldl (addSample (i .card)) (startInterval (i .card) w) (i .samples)
 
   abbrev pub worked : Interval → Work → Work × Closed
-  worked i w = close (i .card) (sumsOf i w)
+  worked i w = closeInterval (i .card) (sumsOf i w)
 
   abbrev pub workedAll : List Interval → Work → List Closed
   workedAll [] w = []
@@ -77,9 +78,33 @@ module _ (G : Gauge) where
   intervals [] p = []
   intervals (t ∷ ts) p = let r = cutAt (p .running) (p .left) t in r .1 ++ intervals ts (r .0)
 
-  -- ---- So it is, for every sequence of steps from a fresh module.
+  -- before the first sample
+  abbrev pub outset : Work → Place
+  outset w = record { left = w; running = none }
+
+  -- ---- So it is, for every history and for every sequence of steps from a fresh module.
+
+  abbrev pub OneCardHistory : (D : Ports (Meter G) Card) → Card → Work → List (Event (partsOf G D)) → Type 0
+  OneCardHistory D blank w h = play (partsOf G D) h (new G blank w) ≡ workedAll (intervals (tagged D none h) (outset w)) w
 
   abbrev pub OneCard : (D : Ports (Meter G) Card) → Card → Work → List (Step (partsOf G D)) → Type 0
   OneCard D blank w xs =
       let r = run (partsOf G D) xs (fresh (partsOf G D) (new G blank w)) in
-      r .closed ≡ workedAll (intervals (tagged D none (r .history)) (record { left = w; running = none })) w
+      r .closed ≡ workedAll (intervals (tagged D none (r .history)) (outset w)) w
+
+  -- ---- No sample is lost and none is taken twice: those of the closed intervals and of the one that is open are all, in their order.
+
+  abbrev pub samplesIn : List Interval → List Sample
+  samplesIn [] = []
+  samplesIn (i ∷ is) = i .samples ++ samplesIn is
+
+  abbrev pub stillOpen : Option Interval → List Sample
+  stillOpen none = []
+  stillOpen (some i) = i .samples
+
+  abbrev pub placeAfter : List Tagged → Place → Place
+  placeAfter [] p = p
+  placeAfter (t ∷ ts) p = placeAfter ts (cutAt (p .running) (p .left) t .0)
+
+  abbrev pub AllSamples : List Tagged → Place → Type 0
+  AllSamples ts p = samplesIn (intervals ts p) ++ stillOpen (placeAfter ts p .running) ≡ stillOpen (p .running) ++ map (λ (t : Tagged). t .1) ts

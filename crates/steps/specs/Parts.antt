@@ -28,6 +28,7 @@ pub record Parts : Type 1 where
   pub copy : HoldKind → Meter → OrRefusal Held  -- hold: 14
   pub told : HoldKind → Held → Value  -- what the hold returns
   pub look : Held → Address → OrRefusal Value  -- read: 15, 16, 17
+  -- where nothing is held, every read is refused
   pub unheld-refuses : (a : Address) → (n : ℕ) × (look unheld a ≡ refused n)
   -- samples: the meter after the block, and the intervals that the block closed
   pub feed : Meter → Block → OrRefusal (Meter × List Closed)  -- block: 5, 6, 18

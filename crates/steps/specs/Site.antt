@@ -25,7 +25,7 @@ pub record Closed : Type 0 where
   pub total : ℕ
 
 pub record Work : Type 0 where
-  pub sum : ℕ
+  pub sums : ℕ
   pub energy : ℕ  -- of all closed intervals
   pub latest : Option Closed
 
@@ -35,8 +35,8 @@ nextNumber (some c) = suc (c .number)
 
 abbrev pub closing : Card → Work → Work × Closed
 closing c w =
-    let z : Closed = record { number = nextNumber (w .latest); serial = c .serial; total = w .sum } in
-    (record { sum = 0; energy = w .energy + w .sum; latest = some z }, z)
+    let z : Closed = record { number = nextNumber (w .latest); serial = c .serial; total = w .sums } in
+    (record { sums = 0; energy = w .energy + w .sums; latest = some z }, z)
 
 abbrev pub core : Gauge
 core = record {
@@ -45,12 +45,12 @@ core = record {
   Sample = ℕ;
   Work = Work;
   Closed = Closed;
-  fits = accepted;
-  start = λ c w. w;
-  add = λ c w x. record { sum = w .sum + c .gain * x; energy = w .energy; latest = w .latest };
+  samplesOf = accepted;
+  startInterval = λ c w. w;
+  addSample = λ c w x. record { sums = w .sums + c .gain * x; energy = w .energy; latest = w .latest };
   breaks = λ c n w x. false;
   full = λ c n w. eqb n 2;
-  close = closing;
+  closeInterval = closing;
 }
 
 pub data Edit : Type 0 where
@@ -126,4 +126,4 @@ abbrev pub site : Parts
 site = partsOf core ports
 
 abbrev pub morning : State site
-morning = fresh site (new core (record { serial = []; gain = 1 }) (record { sum = 0; energy = 0; latest = none }))
+morning = fresh site (new core (record { serial = []; gain = 1 }) (record { sums = 0; energy = 0; latest = none }))
