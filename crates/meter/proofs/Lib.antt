@@ -1,0 +1,3 @@
+-- Laws of the meter.
+pub mod Rooms
+pub mod Slices
