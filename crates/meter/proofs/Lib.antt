@@ -6,3 +6,4 @@ pub mod Keeping
 pub mod Ways
 pub mod Starts
 pub mod Agreement
+pub mod Decided
