@@ -12,8 +12,8 @@ enum kind { START, OPEN, WRITE, COMMIT, DROP, HOLD, READ, BLOCK };
 
 struct step {
     enum kind kind;
-    int64_t number[NUMBERS_MOST];   /* in the line's order */
-    const unsigned char *text;      /* of an open: within the line */
+    int64_t number[NUMBERS_MOST]; /* in the line's order */
+    const unsigned char *text;    /* of an open: within the line */
     size_t text_length;
     int32_t voltage[SIDE_MOST], current[SIDE_MOST];
     size_t voltages, currents;

@@ -8,7 +8,8 @@
 #define LOWEST INT64_C(-8388608)
 #define HIGHEST INT64_C(8388607)
 
-/* C11 leaves the right shift of a negative number to the compiler. Here it must round down, and division toward zero. */
+/* C11 leaves the right shift of a negative number to the compiler. Here it must round down, and division toward zero.
+ */
 _Static_assert((INT64_C(-3) >> 1) == -2 && INT64_C(-3) / 2 == -1, "right shifts must round down");
 
 /* value divided by 2^bits, rounding down. */
