@@ -91,13 +91,17 @@ static void lay_out(void)
 
 static void good(void)
 {
-    draw_book((size_t)between(0, chance(20) ? 200 : 12), (size_t)between(0, chance(20) ? 100 : 8));
+    size_t card_count = (size_t)between(0, chance(20) ? 200 : 12);
+
+    draw_book(card_count, (size_t)between(0, chance(20) ? 100 : 8));
     lay_out();
 }
 
 static void some_of_each(void)
 {
-    draw_book((size_t)between(2, 12), (size_t)between(2, 8));
+    size_t card_count = (size_t)between(2, 12);
+
+    draw_book(card_count, (size_t)between(2, 8));
     lay_out();
 }
 
@@ -121,8 +125,11 @@ static void cut_short(void)
 
 static void bit_flipped(void)
 {
+    size_t at;
+
     good();
-    book[draw(length)] ^= (unsigned char)(1u << draw(8));
+    at = draw(length);
+    book[at] ^= (unsigned char)(1u << draw(8));
 }
 
 static void repeated_card(void)
@@ -178,15 +185,20 @@ static void wrong_count(void)
     book[1] = (unsigned char)PICK(0, 0, 1, 4, 5, 255);
 }
 
+static unsigned char *some_place(void)
+{
+    return chance(50) ? card + draw(cards) * CARD : withdrawn + draw(gone) * SERIAL;
+}
+
 static void dirty_padding(void)
 {
-    unsigned char *place;
+    unsigned char *place, byte = (unsigned char)PICK('0', 1, 255, '9', ' ');
     size_t digits = (size_t)between(1, 11);
 
     some_of_each();
-    place = chance(50) ? card + draw(cards) * CARD : withdrawn + draw(gone) * SERIAL;
+    place = some_place();
     draw_serial(place, digits);
-    place[chance(50) ? 12 : (int64_t)digits + 1] = (unsigned char)PICK('0', 1, 255, '9', ' ');
+    place[chance(50) ? SERIAL - 1 : 1 + digits] = byte;
     lay_out();
 }
 
@@ -194,23 +206,23 @@ static void field_out(void)
 {
     int field = (int)between(3, 8);
     int64_t least = field == 5 ? 4096 : 8388608;
+    int64_t value = field <= 4 && chance(40) ? 0 : PICK(least, 16777215, between(least, 16777215));
 
     some_of_each();
-    put_field(card + draw(cards) * CARD, field,
-              field <= 4 && chance(40) ? 0 : PICK(least, 16777215, between(least, 16777215)));
+    put_field(card + draw(cards) * CARD, field, value);
     lay_out();
 }
 
 static void bad_serial(void)
 {
-    unsigned char *place;
+    unsigned char *place, byte = (unsigned char)PICK('/', ':', 0, 'a', ' ', 0xB0, 255, '-');
 
     some_of_each();
-    place = chance(50) ? card + draw(cards) * CARD : withdrawn + draw(gone) * SERIAL;
+    place = some_place();
     if (chance(50))
         place[0] = (unsigned char)PICK(0, 13, 14, 255, place[0] + 1, place[0] - 1);
     else
-        place[1 + draw(place[0])] = (unsigned char)PICK('/', ':', 0, 'a', ' ', 0xB0, 255, '-');
+        place[1 + draw(place[0])] = byte;
     lay_out();
 }
 

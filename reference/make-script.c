@@ -6,12 +6,16 @@
 
 enum { STEPS = 400, ALL_WRITTEN = 255, REGISTERS = 21 };
 
-static void put_setting(int64_t good, bool spoiled, int64_t bad)
+/* The eight settings, one of them out of range or none (-1). */
+static void put_settings(int64_t n, int bad)
 {
-    put_number(spoiled ? bad : good);
+    put_number(bad == 0 ? PICK(0, -1, 4097, 4097, bad_number(n)) : n);
+    put_number(bad == 1 ? PICK(0, -1, INT64_C(281474976710656), INT64_C(281474976710656), bad_number(0))
+                        : good_bucket());
+    for (int k = 2; k < 8; k++)
+        put_number(bad == k ? bad_word() : good_word());
 }
 
-/* A start; `bad` names the setting that is out of range, from 0, or none. */
 static void put_one_start(struct belief *belief)
 {
     int64_t budget = belief->budget, n = good_samples();
@@ -19,11 +23,7 @@ static void put_one_start(struct belief *belief)
 
     *belief = (struct belief){.manner = (enum manner)draw(MANNERS), .samples = bad < 0 ? n : 1, .budget = budget};
     fputs("start", stdout);
-    put_setting(n, bad == 0, PICK(0, -1, 4097, 4097, bad_number(n)));
-    put_setting(good_bucket(), bad == 1,
-                PICK(0, -1, INT64_C(281474976710656), INT64_C(281474976710656), bad_number(0)));
-    for (int k = 2; k < 8; k++)
-        put_setting(good_word(), bad == k, bad_word());
+    put_settings(n, bad);
     putchar('\n');
 }
 

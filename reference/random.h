@@ -17,7 +17,8 @@ int64_t between(int64_t low, int64_t high);
 /* True so many times in a hundred. */
 bool chance(int percent);
 
-/* One of a list. */
+/* One of a list. At most one of its values may itself draw: C leaves their order open, and a seed must give the same
+   everywhere. For the same reason no call has two arguments that draw. */
 int64_t pick(const int64_t *list, size_t count);
 
 #define PICK(...) pick((const int64_t[]){__VA_ARGS__}, sizeof((const int64_t[]){__VA_ARGS__}) / sizeof(int64_t))

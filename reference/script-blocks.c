@@ -79,9 +79,9 @@ static void fill(enum manner manner, size_t count)
 /* How many samples: often such that an interval closes, or stays one short, or several close. */
 static int64_t good_length(const struct belief *belief)
 {
-    int64_t left = belief->samples - belief->taken, n = belief->samples;
+    int64_t left = belief->samples - belief->taken, n = belief->samples, few = between(0, 9);
     int64_t length =
-        PICK(left, left, left, left - 1, left + 1, n, 2 * n, 3 * n + 1, left + n + 1, between(0, 9), between(1, n), 0);
+        PICK(left, left, left, left - 1, left + 1, n, 2 * n, 3 * n + 1, left + n + 1, few, between(1, n), 0);
 
     if (length > belief->budget)
         length = between(0, 4);
@@ -97,11 +97,11 @@ static int64_t odd_length(void)
 static void spoil(size_t count)
 {
     int64_t *side = chance(50) ? voltage : current;
+    int64_t value = PICK(TOP + 1, BOTTOM - 1, TOP + 1, BOTTOM - 1, TOP + 1, BOTTOM - 1, INT32_MAX, INT32_MIN,
+                         (int64_t)INT32_MAX + 1, (int64_t)INT32_MIN - 1, bad_number(0));
 
     if (count > 0)
-        side[chance(50) ? draw(count) : count - 1] =
-            PICK(TOP + 1, BOTTOM - 1, TOP + 1, BOTTOM - 1, TOP + 1, BOTTOM - 1, INT32_MAX, INT32_MIN,
-                 (int64_t)INT32_MAX + 1, (int64_t)INT32_MIN - 1, bad_number(0));
+        side[chance(50) ? draw(count) : count - 1] = value;
 }
 
 /* A long side is written in plain decimal alone, so that the line keeps within its length. */

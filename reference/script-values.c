@@ -60,25 +60,27 @@ static int64_t good_offset(enum manner manner)
     if (manner == SMALL)
         return chance(60) ? 0 : between(-3, 3);
     if (manner == EDGE)
-        return PICK(0, 0, 1, -1, TOP, BOTTOM, TOP - 1, BOTTOM + 1);
+        return PICK(0, 0, 0, 0, 0, 0, 1, -1, TOP, BOTTOM, TOP - 1, BOTTOM + 1);
     return chance(50) ? between(-500, 500) : PICK(0, TOP, BOTTOM, between(BOTTOM, TOP));
 }
 
 static int64_t good_gain(enum manner manner)
 {
+    int64_t any = between(1, TOP);
+
     if (manner == SMALL && chance(70))
         return ONE;
     if (manner == EDGE)
-        return PICK(1, 2, TOP, ONE, ONE, ONE - 1, ONE + 1, ONE * 2);
-    return PICK(ONE, ONE / 2, ONE * 2, ONE - 1, ONE + 1, between(1, TOP), between(ONE / 2, ONE * 2), 1, TOP);
+        return PICK(ONE, ONE, ONE, ONE, ONE, 1, 2, TOP, ONE - 1, ONE + 1, ONE * 2);
+    return PICK(ONE, ONE / 2, ONE * 2, ONE - 1, ONE + 1, any, between(ONE / 2, ONE * 2), 1, TOP);
 }
 
 static int64_t good_lessening(enum manner manner)
 {
     if (manner == SMALL)
-        return between(0, 6);
+        return chance(40) ? 0 : between(1, 6);
     if (manner == EDGE)
-        return PICK(0, 0, 0, 1, TOP, TOP - 1, TOP - 2);
+        return PICK(0, 0, 0, 0, 1, TOP, TOP - 1, TOP - 2);
     return chance(40) ? 0 : any_size();
 }
 
@@ -89,14 +91,14 @@ int64_t good_field(enum manner manner, int field)
     if (field <= 4)
         return good_gain(manner);
     if (field == 5)
-        return PICK(0, 0, 1, 2048, 4095, 4094, between(0, 4095), between(0, 4095));
+        return PICK(0, 0, 1, 2048, 4095, 4094, between(0, 4095));
     return good_lessening(manner);
 }
 
 int64_t bad_field_value(int field)
 {
     if (field <= 2)
-        return PICK(TOP + 1, BOTTOM - 1, bad_number(BOTTOM), bad_number(5));
+        return PICK(TOP + 1, BOTTOM - 1, bad_number(BOTTOM));
     if (field <= 4)
         return PICK(0, -1, TOP + 1, bad_number(ONE));
     if (field == 5)
@@ -106,15 +108,18 @@ int64_t bad_field_value(int field)
 
 int64_t good_samples(void)
 {
+    int64_t few = between(3, 12);
+
     if (chance(85))
-        return PICK(1, 2, 2, 3, 4, 5, between(3, 12), between(3, 40));
+        return PICK(1, 2, 2, 3, 4, 5, few, between(3, 40));
     return PICK(4096, 4095, 400, 64, 256, between(41, 4096));
 }
 
 int64_t good_bucket(void)
 {
-    return PICK(1, 2, 100, INT64_C(281474976710655), INT64_C(0x0001AFC8BB4C), 1 + any_size(), 1 + any_size() * 64,
-                16777216, between(1, 1000));
+    int64_t small = between(1, 1000), size = any_size();
+
+    return PICK(1, 2, 100, INT64_C(281474976710655), INT64_C(0x0001AFC8BB4C), 1 + size, 1 + size * 64, 16777216, small);
 }
 
 static int64_t table_word(int which)
@@ -133,7 +138,7 @@ int64_t bad_word(void)
 {
     int64_t good = table_word((int)draw(7));
 
-    return PICK(0x8F, 0x92, 0x71, 0x7C, 1, -1, good + 1, good * 3, -good, bad_number(good), bad_number(0));
+    return PICK(0x8F, 0x92, 0x71, 0x7C, 1, -1, good + 1, good * 3, -good, bad_number(good));
 }
 
 int64_t register_address(int which)
@@ -146,7 +151,7 @@ int64_t bad_address(void)
     int64_t word = table_word((int)draw(21)), byte = 3 * word;
 
     return PICK(byte + 1, byte - 1, word, 0, 0x154, 0x150, 0x177, 0x1AE, byte + 3 * 65536, -byte, 65539,
-                bad_number(byte), bad_number(byte));
+                bad_number(byte));
 }
 
 void put_serial(void)
