@@ -1,0 +1,3 @@
+-- Laws of the book's definitions, and the theorems.
+pub mod Sections
+pub mod Answers
