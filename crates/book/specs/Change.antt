@@ -1,5 +1,5 @@
 -- Adding a card and withdrawing a serial: the answer, and what the lent buffer holds then.
-use Prim.Native.Nat.{ℕ, _+_, _-_, _*_, _/_, _%_}
+use Prim.Native.Nat.{ℕ, _+_, _-_, _*_, _/_, _%_, _≤_, _<_}
 use mathlib.Core.Bool.{Bool, cond, not, _&&_}
 use mathlib.Core.List.{List, [], _∷_, _++_}
 use lib.IntN.{ℤ}
@@ -25,6 +25,13 @@ countBytes n = n % 256 ∷ n / 256 % 256 ∷ []
 -- the book with the entry x last in the section s: one more in the section's count, and what stood behind the section after x
 unfoldable pub withEntry : List ℕ → Section → List ℕ → List ℕ
 withEntry b s x = take (s .base - 2) b ++ countBytes (s .count + 1) ++ part b (s .base) (s .count * s .size) ++ x ++ drop (endOf s) b
+
+-- where that book goes into the buffer of which it takes used bytes: the section lies in them, behind its count, there is room for x, and the count can go up
+pub record Takes (b : List ℕ) (used : ℕ) (s : Section) (x : List ℕ) : Type 0 where
+  pub counted : 2 ≤ s .base
+  pub inside : endOf s ≤ used
+  pub room : used + length x ≤ length b
+  pub few : s .count < 65535
 
 -- whether one entry more with the serial t fits: not there yet, the section below its limit, and room bytes enough for the longer book
 unfoldable pub roomFor : List ℕ → Section → ℕ → List ℕ → ℕ → Answer
