@@ -102,6 +102,7 @@ room-has b s limit t room e =
 
 -- a well-formed book in the first used bytes
 pub record Holds (b : List ℕ) (used : ℕ) : Type 0 where
+  pub test : bookIn b used ≡ true
   pub within : used ≤ length b
   pub formed : wellFormed (take used b) ≡ true
   pub long : length (take used b) ≡ used
@@ -112,7 +113,7 @@ unfolding bookIn
 holds b used e =
     let l = leb-true used (length b) (and-left (leb used (length b)) (wellFormed (take used b)) e) in
     let f = and-right (leb used (length b)) (wellFormed (take used b)) e in
-    record { within = l; formed = f; long = length-take-le used b l; sizes = formed-sized (take used b) f }
+    record { test = e; within = l; formed = f; long = length-take-le used b l; sizes = formed-sized (take used b) f }
 
 -- an accepted card
 pub record Adds (b : List ℕ) (used : ℕ) (t : List ℕ) (f : List ℤ) : Type 0 where

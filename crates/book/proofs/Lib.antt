@@ -2,3 +2,7 @@
 pub mod Sections
 pub mod Answers
 pub mod Entry
+pub mod Grown
+pub mod Changes
+pub mod Promises
+pub mod Exact

@@ -4,3 +4,4 @@ pub mod Book
 pub mod Answers
 pub mod Lookup
 pub mod Change
+pub mod Promises
