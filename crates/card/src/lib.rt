@@ -128,12 +128,6 @@ impl Serial {
     }
 }
 
-fn wide(x: u8) -> u32
-    ensures { λ r. ⌜ (r ≡ x) × (r ≤ 255) ⌝ }
-{
-    x as u32
-}
-
 // Whether a byte may stand at place k of the twelve, where there are n digits.
 fn place_ok(n: u8, k: usize, d: u8) -> bool
     ensures { λ r. ⌜ r ≡ placeOk n k d ⌝ }
@@ -246,10 +240,10 @@ fn three_at(c: &[u8], at: usize) -> u32
     requires { ⌜ at ≤ 37 ⌝ }
     ensures { λ r. ⌜ (r ≡ threeAt (now (c .entry)) at) × (r ≤ 16777215) ⌝ }
 {
-    let low = wide(byte_at(c, at));
-    let mid = wide(byte_at(c, at + 1));
-    let high = wide(byte_at(c, at + 2));
-    low + 256 * mid + 65536 * high
+    let low = byte_at(c, at);
+    let mid = byte_at(c, at + 1);
+    let high = byte_at(c, at + 2);
+    low as u32 + 256 * mid as u32 + 65536 * high as u32
 }
 
 // What 24 bits say in the field at place k of the eight.

@@ -8,17 +8,17 @@ use Rattle.book.proofs.count_at.Tie as tie
 byte-at-requires : tie.Need-byte-at-requires
 byte-at-requires c κs = search needs
 
-wide-requires : tie.Need-wide-requires
-wide-requires c κs = search needs
-
 add-byte-at : tie.Need-add-byte-at
 add-byte-at c = search needs
 
 byte-at-requires-2 : tie.Need-byte-at-requires-2
 byte-at-requires-2 c κs = search needs
 
-wide-requires-2 : tie.Need-wide-requires-2
-wide-requires-2 c κs = search needs
+cast-result : tie.Need-cast-result
+cast-result c = search needs
+
+cast-result-2 : tie.Need-cast-result-2
+cast-result-2 c = search needs
 
 mul-result : tie.Need-mul-result
 mul-result c = search needs
@@ -28,17 +28,17 @@ add-result c = search needs
 
 returns : tie.Need-returns
 unfolding countAt
-returns c = rw (← (c .before .byte-at2 .ensures), ← (c .before .before .before .byte-at .ensures)) (omega arith)
+returns c = rw (← (c .byte-at2 .ensures), ← (c .before .byte-at .ensures)) (omega arith)
 
 pub count-at-spec : {M : Type 1} → statement M
 count-at-spec =
     tie.close
     (tie.spec
     byte-at-requires
-    wide-requires
     add-byte-at
     byte-at-requires-2
-    wide-requires-2
+    cast-result
+    cast-result-2
     mul-result
     add-result
     returns)

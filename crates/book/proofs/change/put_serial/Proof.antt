@@ -1,8 +1,8 @@
--- `book::put_serial` meets its contract.
+-- `book::change::put_serial` meets its contract.
 use native.Mathlib.Nat.{sub-zero}
 use borrow.Author.Needs.{needs}
-use Rattle.book.proofs.put_serial.Statement.{statement}
-use Rattle.book.proofs.put_serial.Tie as tie
+use Rattle.book.proofs.change.put_serial.Statement.{statement}
+use Rattle.book.proofs.change.put_serial.Tie as tie
 
 sub-withdrawn : tie.Need-sub-withdrawn
 sub-withdrawn c = search needs

@@ -1,4 +1,4 @@
--- `book::withdraw_answer` meets its contract.
+-- `book::change::withdraw_answer` meets its contract.
 use mathlib.Core.Path.{_≡_, sym, _∙_}
 use mathlib.Core.Bool.{true}
 use native.Mathlib.Nat.{sub-zero}
@@ -10,8 +10,8 @@ use Rattle.book.specs.Change.{withdrawAnswer}
 use Rattle.book.proofs.Sections.{withdrawn-lie}
 use Rattle.book.proofs.Answers.{Holds, holds, short-book}
 use borrow.Author.Needs.{needs}
-use Rattle.book.proofs.withdraw_answer.Statement.{statement}
-use Rattle.book.proofs.withdraw_answer.Tie as tie
+use Rattle.book.proofs.change.withdraw_answer.Statement.{statement}
+use Rattle.book.proofs.change.withdraw_answer.Tie as tie
 
 is-serial-requires : tie.Need-is-serial-requires
 is-serial-requires c κs = search needs

@@ -1,8 +1,8 @@
--- `book::put_card` meets its contract.
+-- `book::change::put_card` meets its contract.
 use native.Mathlib.Nat.{sub-zero}
 use borrow.Author.Needs.{needs}
-use Rattle.book.proofs.put_card.Statement.{statement}
-use Rattle.book.proofs.put_card.Tie as tie
+use Rattle.book.proofs.change.put_card.Statement.{statement}
+use Rattle.book.proofs.change.put_card.Tie as tie
 
 sub-cards : tie.Need-sub-cards
 sub-cards c = search needs

@@ -1,4 +1,4 @@
--- `book::room_for` meets its contract.
+-- `book::change::room_for` meets its contract.
 use mathlib.Core.Path.{_≡_, sym, _∙_}
 use mathlib.Core.Bool.{false}
 use denote.Ref.{now}
@@ -6,8 +6,8 @@ use borrow.Author.Tests.{lt-ltb, le-ltb, lt-leb, le-leb}
 use Rattle.book.specs.Sections.{has}
 use Rattle.book.specs.Change.{roomFor}
 use borrow.Author.Needs.{needs}
-use Rattle.book.proofs.room_for.Statement.{statement}
-use Rattle.book.proofs.room_for.Tie as tie
+use Rattle.book.proofs.change.room_for.Statement.{statement}
+use Rattle.book.proofs.change.room_for.Tie as tie
 
 has-requires : tie.Need-has-requires
 has-requires c κs = search needs

@@ -1,10 +1,10 @@
--- `book::insert` meets its contract: the three writes make the new book.
+-- `book::change::insert` meets its contract: the three writes make the new book.
 use native.Mathlib.Omega.{arith}
 use denote.Ref.{now}
 use Rattle.book.proofs.Entry.{written}
 use borrow.Author.Needs.{needs}
-use Rattle.book.proofs.insert.Statement.{statement}
-use Rattle.book.proofs.insert.Tie as tie
+use Rattle.book.proofs.change.insert.Statement.{statement}
+use Rattle.book.proofs.change.insert.Tie as tie
 
 mul-at : tie.Need-mul-at
 mul-at c = search needs

@@ -1,4 +1,4 @@
--- `book::move_up` meets its contract: the bytes from i on are moved.
+-- `book::change::move_up` meets its contract: the bytes from i on are moved.
 use Prim.Native.Nat.{ℕ, _+_, _-_, _≤_}
 use mathlib.Core.Path.{_≡_, refl, sym, ap, _∙_}
 use native.Mathlib.Omega.{arith}
@@ -6,8 +6,8 @@ use lib.ListN.{length, length-set}
 use denote.Ref.{now}
 use borrow.Author.Needs.{needs}
 use Rattle.card.specs.Places.{part, put, move-more, put-part-none}
-use Rattle.book.proofs.move_up.Statement.{statement}
-use Rattle.book.proofs.move_up.Tie as tie
+use Rattle.book.proofs.change.move_up.Statement.{statement}
+use Rattle.book.proofs.change.move_up.Tie as tie
 
 abbrev Inv-loop : tie.InvT-loop
 Inv-loop b₀ from to by i₀ b i = (from ≤ i) × (i ≤ to) × (length b ≡ length b₀) × (b ≡ put b₀ (i + by) (part b₀ i (to - i)))

@@ -1,4 +1,4 @@
--- `book::withdraw` meets its contract.
+-- `book::change::withdraw` meets its contract.
 use mathlib.Core.Path.{_≡_, sym, ap, _∙_}
 use mathlib.Core.Bool.{true}
 use lib.Dec.{eqb}
@@ -8,8 +8,8 @@ use Rattle.book.specs.Answers.{Answer}
 use Rattle.book.specs.Change.{withdrawAnswer, afterWithdraw}
 use Rattle.book.proofs.Answers.{withdraws, takes-serial}
 use borrow.Author.Needs.{needs}
-use Rattle.book.proofs.withdraw.Statement.{statement}
-use Rattle.book.proofs.withdraw.Tie as tie
+use Rattle.book.proofs.change.withdraw.Statement.{statement}
+use Rattle.book.proofs.change.withdraw.Tie as tie
 
 withdraw-answer-requires : tie.Need-withdraw-answer-requires
 withdraw-answer-requires c κs = search needs

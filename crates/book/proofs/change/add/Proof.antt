@@ -1,4 +1,4 @@
--- `book::add` meets its contract.
+-- `book::change::add` meets its contract.
 use mathlib.Core.Path.{_≡_, sym, ap, _∙_}
 use mathlib.Core.Bool.{true}
 use lib.Dec.{eqb}
@@ -8,8 +8,8 @@ use Rattle.book.specs.Answers.{Answer}
 use Rattle.book.specs.Change.{addAnswer, added}
 use Rattle.book.proofs.Answers.{adds, takes-card}
 use borrow.Author.Needs.{needs}
-use Rattle.book.proofs.add.Statement.{statement}
-use Rattle.book.proofs.add.Tie as tie
+use Rattle.book.proofs.change.add.Statement.{statement}
+use Rattle.book.proofs.change.add.Tie as tie
 
 add-answer-requires : tie.Need-add-answer-requires
 add-answer-requires c κs = search needs

@@ -1,9 +1,9 @@
--- `book::count_bytes` meets its contract.
+-- `book::change::count_bytes` meets its contract.
 use mathlib.Core.Path.{refl}
 use Rattle.book.specs.Change.{countBytes}
 use borrow.Author.Needs.{needs}
-use Rattle.book.proofs.count_bytes.Statement.{statement}
-use Rattle.book.proofs.count_bytes.Tie as tie
+use Rattle.book.proofs.change.count_bytes.Statement.{statement}
+use Rattle.book.proofs.change.count_bytes.Tie as tie
 
 cast-t3 : tie.Need-cast-t3
 cast-t3 c = search needs

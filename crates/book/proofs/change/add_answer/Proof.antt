@@ -1,4 +1,4 @@
--- `book::add_answer` meets its contract.
+-- `book::change::add_answer` meets its contract.
 use mathlib.Core.Path.{_≡_, sym, _∙_}
 use mathlib.Core.Bool.{true}
 use native.Mathlib.Nat.{sub-zero}
@@ -11,8 +11,8 @@ use Rattle.book.specs.Change.{addAnswer}
 use Rattle.book.proofs.Sections.{cards-lie}
 use Rattle.book.proofs.Answers.{Holds, holds, short-book}
 use borrow.Author.Needs.{needs}
-use Rattle.book.proofs.add_answer.Statement.{statement}
-use Rattle.book.proofs.add_answer.Tie as tie
+use Rattle.book.proofs.change.add_answer.Statement.{statement}
+use Rattle.book.proofs.change.add_answer.Tie as tie
 
 is-serial-requires : tie.Need-is-serial-requires
 is-serial-requires c κs = search needs

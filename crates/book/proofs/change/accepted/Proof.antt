@@ -1,12 +1,12 @@
--- `book::accepted` meets its contract.
+-- `book::change::accepted` meets its contract.
 use mathlib.Core.Path.{sym, ap}
 use lib.Dec.{eqb}
 use Rattle.book.specs.Answers.{changedAnswer}
 use Rattle.book.specs.declared.Changed.{Changed}
 use Rattle.book.proofs.Answers.{not-length}
 use borrow.Author.Needs.{needs}
-use Rattle.book.proofs.accepted.Statement.{statement}
-use Rattle.book.proofs.accepted.Tie as tie
+use Rattle.book.proofs.change.accepted.Statement.{statement}
+use Rattle.book.proofs.change.accepted.Tie as tie
 
 enum-told : tie.Need-enum-told
 enum-told c = search needs

@@ -1,10 +1,10 @@
--- `book::book_in` meets its contract.
+-- `book::change::book_in` meets its contract.
 use native.Mathlib.Nat.{sub-zero}
 use borrow.Author.Tests.{lt-leb, le-leb}
 use Rattle.book.specs.Change.{bookIn}
 use borrow.Author.Needs.{needs}
-use Rattle.book.proofs.book_in.Statement.{statement}
-use Rattle.book.proofs.book_in.Tie as tie
+use Rattle.book.proofs.change.book_in.Statement.{statement}
+use Rattle.book.proofs.change.book_in.Tie as tie
 
 returns : tie.Need-returns
 unfolding bookIn
