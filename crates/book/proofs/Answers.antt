@@ -159,3 +159,29 @@ takes-serial b used t a =
 -- a book of the right size is short
 pub short-book : (b : List ℕ) → Sized b → length b ≤ 44548
 short-book b z = omega (arith, z .whole, z .few-cards, z .few-withdrawn)
+
+-- ---- no answer is beyond the buffer
+ask-within : (t : Bool) (r n : ℕ) (a : Answer) → (t ≡ true → a .value ≤ n) → ask t r a .value ≤ n
+ask-within true r n a h = h refl
+ask-within false r n a h = omega arith
+
+pub lookup-within : (b t : List ℕ) → lookupOf b t .value ≤ length b
+unfolding lookupOf seekOf has
+lookup-within b t =
+    ask-within (isSerial t) 1 _ _ (λ s. ask-within (wellFormed b) 2 _ _ (λ f. ask-within (not (has b (withdrawn b) t)) 3 _ _
+    (λ w. ask-within (has b (cards b) t) 4 _ _ (λ h. omega (arith, ltb-true (findIn b (cards b) t) (cards b .count) h, formed-sized b f .whole)))))
+
+room-within : (b : List ℕ) (s : Section) (limit : ℕ) (t : List ℕ) (room : ℕ) → roomFor b s limit t room .value ≤ room
+unfolding roomFor
+room-within b s limit t room =
+    ask-within (not (has b s t)) 19 _ _ (λ n. ask-within (ltb (s .count) limit) 20 _ _ (λ l. ask-within (leb (length b + s .size) room) 21 _ _ (λ f. leb-true _ _ f)))
+
+pub add-within : (b : List ℕ) (used : ℕ) (t : List ℕ) (f : List ℤ) → addAnswer b used t f .value ≤ length b
+unfolding addAnswer
+add-within b used t f =
+    ask-within (isSerial t) 1 _ _ (λ s. ask-within (valuesFit f) 12 _ _ (λ v. ask-within (bookIn b used) 2 _ _ (λ h. room-within (take used b) (cards (take used b)) 1024 t (length b))))
+
+pub withdraw-within : (b : List ℕ) (used : ℕ) (t : List ℕ) → withdrawAnswer b used t .value ≤ length b
+unfolding withdrawAnswer
+withdraw-within b used t =
+    ask-within (isSerial t) 1 _ _ (λ s. ask-within (bookIn b used) 2 _ _ (λ h. room-within (take used b) (withdrawn (take used b)) 512 t (length b)))
