@@ -51,7 +51,8 @@ fn count_at(b: &[u8], at: usize) -> usize
     low as usize + 256 * high as usize
 }
 
-fn cards(b: &[u8]) -> Section
+// The cards of a book.
+pub fn cards(b: &[u8]) -> Section
     ensures { λ r. ⌜ (r ≡ cards (now (b .entry))) × (r .count ≤ 65535) ⌝ }
 {
     Section {
@@ -61,8 +62,9 @@ fn cards(b: &[u8]) -> Section
     }
 }
 
-fn withdrawn(b: &[u8]) -> Section
-    ensures { λ r. ⌜ (r ≡ withdrawn (now (b .entry))) × (r .count ≤ 65535) ⌝ }
+// The withdrawn serials of a book.
+pub fn withdrawn(b: &[u8]) -> Section
+    ensures { λ r. ⌜ (r ≡ withdrawn (now (b .entry))) × (r .count ≤ 65535) × (r .base ≤ 2424799) ⌝ }
 {
     let end = 2 + count_at(b, 0) * 37;
     Section {
