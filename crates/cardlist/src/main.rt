@@ -5,7 +5,7 @@ fn print_cards(book: &[u8]) {
     let mut line = [0u8; 160];
     for k in 0..1024usize {
         let n = listing::card_line(book, k, &mut line);
-        print(&line, n);
+        print(line, n);
     }
 }
 
@@ -13,13 +13,13 @@ fn print_withdrawn(book: &[u8]) {
     let mut line = [0u8; 160];
     for k in 0..512usize {
         let n = listing::withdrawn_line(book, k, &mut line);
-        print(&line, n);
+        print(line, n);
     }
 }
 
-fn print(line: &[u8], n: usize) {
-    if n <= line.len() {
-        io::write_all(STDOUT_FILENO, &line[..n]);
+fn print(line: [u8; 160], n: usize) {
+    if n <= 160 {
+        io::write_all(STDOUT_FILENO, &line[0..n]);
     }
 }
 
@@ -27,12 +27,12 @@ fn print_book(book: &[u8]) {
     let mut line = [0u8; 160];
     if book::is_book(book) {
         let n = listing::first_line(book, &mut line);
-        print(&line, n);
+        print(line, n);
         print_cards(book);
         print_withdrawn(book);
     } else {
         let n = listing::refused_line(&mut line);
-        print(&line, n);
+        print(line, n);
     }
 }
 

@@ -3,15 +3,15 @@ use mathlib.Core.Path.{_≡_, refl}
 use mathlib.Core.List.{List, [], _∷_, _++_}
 use Prim.Native.Nat.{ℕ}
 use lib.ListN.{replicate}
-use Rattle.card.specs.Every.{every, first}
+use Rattle.card.specs.Every.{every}
 use Rattle.card.specs.Places.{part, tab}
-use Rattle.card.specs.Serials.{isDigit, placeOk, holdsSerial, textOf}
+use Rattle.card.specs.Serials.{placeOk, holdsSerial, textOf}
 use Rattle.card.specs.Fields.{lows, highs, fitsField}
-use Rattle.card.specs.Cards.{threeAt, signed24, valueOf, fieldAt, digitsAt, fieldsAt, fieldsOk}
+use Rattle.card.specs.Cards.{threeAt, signed24, valueOf, fieldAt, fieldsAt, fieldsOk}
 use Rattle.book.specs.Sections.{entryAt, serialAt, entryOk, entriesOk, same, fresh, distinct, sectionOk}
 use Rattle.book.specs.Book.{countAt, sized, wellFormed}
 use Rattle.listing.specs.Numbers.{digits, signedDecimal}
-use Rattle.listing.specs.Lines.{refusedLine, cardsWord, withdrawnWord, firstLine, fieldsText, cardText, serialText, cardLine, withdrawnLine, lines, listing}
+use Rattle.listing.specs.Lines.{cardsWord, withdrawnWord, firstLine, fieldsText, cardText, cardLine, lines, listing}
 
 -- 01 00, 04 30 34 31 37, eight 00, six 00, 00 00 20 00 00 20, twelve 00, 00 00
 example : List ℕ

@@ -8,7 +8,6 @@ use native.Mathlib.Numerals.{add-one}
 use native.Mathlib.Omega.{arith}
 use lib.IntN.{ℤ, pos, negsuc, natAbs}
 use lib.ListN.{length, getD, take, drop, set, length-append, length-take, length-drop}
-use lib.Seq.{take-all}
 use lib.Signed.{ltZ}
 use mir.Syntax.{w64}
 use mir.Val.{toZ}
@@ -49,7 +48,7 @@ pub made-in : (l₀ l : List ℕ) (from at : ℕ) (text : List ℕ) → Made l�
 unfolding put
 made-in l₀ l from at text m z h =
     let e : min from (length l₀) + length text + (length l₀ - (from + length text)) ≡ 160 =
-        sym (simp (length-append, length-take, length-drop) refl) ∙ ap length (sym (m .line)) ∙ z in
+    sym (simp (length-append, length-take, length-drop) refl) ∙ ap length (sym (m .line)) ∙ z in
     omega (arith, m .place)
 
 -- ---- the sign
@@ -107,7 +106,7 @@ fields-turn l₀ l l₁ l₂ from at a b f i h n room m p q =
     let v = getD f i (pos 0) in
     let s = front-short f i in
     let e : fieldsText (take (i + 1) f) ≡ (fieldsText (take i f) ++ (32 ∷ [])) ++ signedDecimal v =
-        ap (λ (k : ℕ). fieldsText (take k f)) (add-one i) ∙ fields-more f i h ∙ sym (append-assoc (fieldsText (take i f)) (32 ∷ []) (signedDecimal v)) in
+    ap (λ (k : ℕ). fieldsText (take k f)) (add-one i) ∙ fields-more f i h ∙ sym (append-assoc (fieldsText (take i f)) (32 ∷ []) (signedDecimal v)) in
     rw e
     (made-more l₀ l₁ l₂ from a b (fieldsText (take i f) ++ (32 ∷ [])) (signedDecimal v)
     (made-more l₀ l l₁ from at a (fieldsText (take i f)) (32 ∷ []) m p (omega arith)) q

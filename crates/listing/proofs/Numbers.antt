@@ -1,15 +1,14 @@
 -- Laws of numbers as text, and of the loop that writes the last digit first.
 use Prim.Native.Nat.{ℕ, zero, suc, _+_, _-_, _*_, _/_, _%_, _≤_, _<_}
-use mathlib.Core.Path.{_≡_, refl, sym, ap, _∙_}
+use mathlib.Core.Path.{_≡_, sym, ap, _∙_}
 use mathlib.Core.Bool.{Bool, true, false, cond}
 use mathlib.Core.List.{List, [], _∷_, _++_, append-assoc}
-use native.Mathlib.Numerals.{add-one}
 use native.Mathlib.Omega.{arith}
-use lib.IntN.{ℤ, pos, negsuc, natAbs}
-use lib.ListN.{length, getD, drop, set, length-append, length-set}
+use lib.IntN.{ℤ, pos, negsuc}
+use lib.ListN.{length, drop, set, length-append, length-set}
 use lib.Seq.{drop-cons, getD-set-same, drop-set-lt}
 use lib.Dec.{ltb}
-use borrow.Author.Tests.{ltb-true, ltb-false, lt-ltb, le-ltb}
+use borrow.Author.Tests.{lt-ltb, le-ltb}
 use Rattle.listing.specs.Numbers.{digits, decimal, signedDecimal}
 
 -- numbers of at most k digits are below limit k

@@ -1,8 +1,8 @@
 -- The lines of the listing. One space, 32, parts the items of a line; a line feed, 10, ends it.
-use Prim.Native.Nat.{ℕ, zero, suc, _+_, _*_}
+use Prim.Native.Nat.{ℕ, zero, suc, _+_}
 use mathlib.Core.Bool.{cond}
 use mathlib.Core.List.{List, [], _∷_, _++_}
-use lib.IntN.{ℤ, pos}
+use lib.IntN.{ℤ}
 use lib.Dec.{ltb}
 use Rattle.card.specs.Serials.{textOf}
 use Rattle.card.specs.Cards.{fieldsAt}

@@ -29,7 +29,10 @@ fn digits_of(n: u64) -> Text
     }
     i -= 1;
     bytes[i] = (48 + rest % 10) as u8;
-    Text { bytes: bytes, from: i }
+    Text {
+        bytes: bytes,
+        from: i,
+    }
 }
 
 fn number_text(v: i64) -> Text

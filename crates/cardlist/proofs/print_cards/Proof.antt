@@ -1,47 +1,35 @@
+-- `cardlist::print_cards` ends and does nothing undefined.
+use Prim.Native.Nat.{_-_}
+use borrow.Author.Needs.{needs}
 use Rattle.cardlist.proofs.print_cards.Statement.{statement}
 use Rattle.cardlist.proofs.print_cards.Tie as tie
-use Rattle.cardlist.proofs.print_cards.Reads as reads
-use Rattle.cardlist.proofs.print_cards.Lts as lts
-use Rattle.cardlist.proofs.print.Reads as print-reads
-use Rattle.listing.proofs.card_line.Reads as card-line-reads
 
 abbrev Inv-loop : tie.InvT-loop
-Inv-loop book line₀ k₀ line k = ?
+Inv-loop book line₀ k₀ line k = Unit {0}
 
 abbrev μ-loop : tie.MeasureT-loop
-μ-loop book line₀ k₀ line k = ?
+μ-loop book line₀ k₀ line k = 1024 - k
 
--- src/main.rt:6:5
 loop-holds : tie.Need-loop-holds Inv-loop μ-loop
-loop-holds c = ?
+loop-holds c = tt
 
--- src/main.rt:7:13
 card-line-requires : tie.Need-card-line-requires Inv-loop μ-loop
-card-line-requires c κs = ?
+card-line-requires c κs = search needs
 
--- src/main.rt:8:15
-slice-aggregate-print : tie.Need-slice-aggregate-print Inv-loop μ-loop
-slice-aggregate-print c = ?
-
--- src/main.rt:8:9
 print-requires : tie.Need-print-requires Inv-loop μ-loop
-print-requires c κs = ?
+print-requires c κs = search needs
 
--- src/main.rt:6:9
 add-k : tie.Need-add-k Inv-loop μ-loop
-add-k c = ?
+add-k c = search needs
 
--- src/main.rt:6:5
 loop-less : tie.Need-loop-less Inv-loop μ-loop
-loop-less c = ?
+loop-less c = search needs
 
--- src/main.rt:6:5
 loop-again : tie.Need-loop-again Inv-loop μ-loop
-loop-again c = ?
+loop-again c = tt
 
--- src/main.rt:4:1
 returns : tie.Need-returns Inv-loop μ-loop
-returns c = ?
+returns c = tt
 
 pub print-cards-spec : {M : Type 1} → statement M
 print-cards-spec =
@@ -51,7 +39,6 @@ print-cards-spec =
     μ-loop
     loop-holds
     card-line-requires
-    slice-aggregate-print
     print-requires
     add-k
     loop-less

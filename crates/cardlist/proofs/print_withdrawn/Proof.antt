@@ -1,47 +1,35 @@
+-- `cardlist::print_withdrawn` ends and does nothing undefined.
+use Prim.Native.Nat.{_-_}
+use borrow.Author.Needs.{needs}
 use Rattle.cardlist.proofs.print_withdrawn.Statement.{statement}
 use Rattle.cardlist.proofs.print_withdrawn.Tie as tie
-use Rattle.cardlist.proofs.print_withdrawn.Reads as reads
-use Rattle.cardlist.proofs.print_withdrawn.Lts as lts
-use Rattle.cardlist.proofs.print.Reads as print-reads
-use Rattle.listing.proofs.withdrawn_line.Reads as withdrawn-line-reads
 
 abbrev Inv-loop : tie.InvT-loop
-Inv-loop book line₀ k₀ line k = ?
+Inv-loop book line₀ k₀ line k = Unit {0}
 
 abbrev μ-loop : tie.MeasureT-loop
-μ-loop book line₀ k₀ line k = ?
+μ-loop book line₀ k₀ line k = 512 - k
 
--- src/main.rt:14:5
 loop-holds : tie.Need-loop-holds Inv-loop μ-loop
-loop-holds c = ?
+loop-holds c = tt
 
--- src/main.rt:15:13
 withdrawn-line-requires : tie.Need-withdrawn-line-requires Inv-loop μ-loop
-withdrawn-line-requires c κs = ?
+withdrawn-line-requires c κs = search needs
 
--- src/main.rt:16:15
-slice-aggregate-print : tie.Need-slice-aggregate-print Inv-loop μ-loop
-slice-aggregate-print c = ?
-
--- src/main.rt:16:9
 print-requires : tie.Need-print-requires Inv-loop μ-loop
-print-requires c κs = ?
+print-requires c κs = search needs
 
--- src/main.rt:14:9
 add-k : tie.Need-add-k Inv-loop μ-loop
-add-k c = ?
+add-k c = search needs
 
--- src/main.rt:14:5
 loop-less : tie.Need-loop-less Inv-loop μ-loop
-loop-less c = ?
+loop-less c = search needs
 
--- src/main.rt:14:5
 loop-again : tie.Need-loop-again Inv-loop μ-loop
-loop-again c = ?
+loop-again c = tt
 
--- src/main.rt:12:1
 returns : tie.Need-returns Inv-loop μ-loop
-returns c = ?
+returns c = tt
 
 pub print-withdrawn-spec : {M : Type 1} → statement M
 print-withdrawn-spec =
@@ -51,7 +39,6 @@ print-withdrawn-spec =
     μ-loop
     loop-holds
     withdrawn-line-requires
-    slice-aggregate-print
     print-requires
     add-k
     loop-less

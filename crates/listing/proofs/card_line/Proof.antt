@@ -11,17 +11,10 @@ use Rattle.listing.proofs.Lines.{part-short}
 use borrow.Author.Needs.{needs}
 use Rattle.listing.proofs.card_line.Statement.{statement}
 use Rattle.listing.proofs.card_line.Tie as tie
-use Rattle.listing.proofs.card_line.Reads as reads
-use Rattle.listing.proofs.card_line.Lts as lts
-use Rattle.book.proofs.cards.Reads as cards-reads
-use Rattle.listing.proofs.part_of.Reads as part-of-reads
-use Rattle.listing.proofs.put_card.Reads as put-card-reads
 
--- src/lib.rt:151:13
 cards-requires : tie.Need-cards-requires
 cards-requires c κs = search needs
 
--- src/lib.rt:153:9
 count : (c : tie.After-cards) → c .cards .result .count ≡ cards (now (c .before .before .args .book)) .count
 count c = ap (λ (s : Section). s .count) (c .cards .ensures .0)
 
@@ -31,23 +24,18 @@ returns c =
     let l = le-ltb (c .before .before .before .args .k) _ (rw (count (c .before)) at (c .if1 .taken)) in
     (simp l, simp l (sym (put-none _ 0)))
 
--- src/lib.rt:155:38
 mul-part-of : tie.Need-mul-part-of
 mul-part-of c = search needs
 
--- src/lib.rt:155:34
 add-part-of : tie.Need-add-part-of
 add-part-of c = search needs
 
--- src/lib.rt:155:20
 part-of-requires : tie.Need-part-of-requires
 part-of-requires c κs = search needs
 
--- src/lib.rt:155:5
 put-card-requires : tie.Need-put-card-requires
 put-card-requires c κs = rw (c .part-of .ensures) (part-short _ _ 37)
 
--- src/lib.rt:148:1
 returns-2 : tie.Need-returns-2
 unfolding cardLine entryAt
 returns-2 c =

@@ -15,34 +15,22 @@ use Rattle.listing.proofs.Lines.{made-first, made-more, made-whole, cou
 use borrow.Author.Needs.{needs}
 use Rattle.listing.proofs.first_line.Statement.{statement}
 use Rattle.listing.proofs.first_line.Tie as tie
-use Rattle.listing.proofs.first_line.Reads as reads
-use Rattle.listing.proofs.first_line.Lts as lts
-use Rattle.book.proofs.cards.Reads as cards-reads
-use Rattle.book.proofs.withdrawn.Reads as withdrawn-reads
-use Rattle.listing.proofs.put_number.Reads as put-number-reads
-use Rattle.listing.proofs.put_text.Reads as put-text-reads
 
--- src/lib.rt:138:17
 cards-requires : tie.Need-cards-requires
 cards-requires c κs = search needs
 
--- src/lib.rt:139:21
 withdrawn-requires : tie.Need-withdrawn-requires
 withdrawn-requires c κs = search needs
 
--- src/lib.rt:140:31
 slice-aggregate-put-text : tie.Need-slice-aggregate-put-text
 slice-aggregate-put-text c = search needs
 
--- src/lib.rt:140:9
 put-text-requires : tie.Need-put-text-requires
 put-text-requires c κs = search needs
 
--- src/lib.rt:141:33
 cast-put-number : tie.Need-cast-put-number
 cast-put-number c = search needs
 
--- src/lib.rt:141:9
 book : (c : tie.After-withdrawn) → List ℕ
 book c = now (c .before .before .before .args .book)
 
@@ -68,36 +56,29 @@ second-number c =
 put-number-requires : tie.Need-put-number-requires
 put-number-requires c κs = (omega (arith, c .before .put-text .ensures .0), count-small _ (c .before .before .before .before .before .cards .ensures .1))
 
--- src/lib.rt:142:31
 slice-aggregate-put-text-2 : tie.Need-slice-aggregate-put-text-2
 slice-aggregate-put-text-2 c = search needs
 
--- src/lib.rt:142:9
 put-text-requires-2 : tie.Need-put-text-requires-2
 put-text-requires-2 c κs = omega (arith, first-number (c .before .before) .0, c .before .before .before .before .put-text .ensures .0, digits-length 10 (cards (book (c .before .before .before .before .before .before .before)) .count))
 
--- src/lib.rt:143:33
 cast-put-number-2 : tie.Need-cast-put-number-2
 cast-put-number-2 c = search needs
 
--- src/lib.rt:143:9
 put-number-requires-2 : tie.Need-put-number-requires-2
 put-number-requires-2 c κs =
     let n = c .before .before .before .before in
     (omega (arith, c .before .put-text2 .ensures .0, first-number n .0, n .before .before .put-text .ensures .0, digits-length 10 (cards (book (n .before .before .before .before .before)) .count)), count-small _ (n .before .before .before .before .before .withdrawn .ensures .1))
 
--- src/lib.rt:144:23
 slice-aggregate-put-text-3 : tie.Need-slice-aggregate-put-text-3
 slice-aggregate-put-text-3 c = search needs
 
--- src/lib.rt:144:5
 put-text-requires-3 : tie.Need-put-text-requires-3
 put-text-requires-3 c κs =
     let m = c .before .before in
     let n = m .before .before .before .before .before in
     omega (arith, second-number m .0, m .before .before .put-text2 .ensures .0, first-number n .0, n .before .before .put-text .ensures .0, digits-length 10 (cards (book (n .before .before .before .before .before)) .count), digits-length 10 (withdrawn (book (n .before .before .before .before .before)) .count))
 
--- src/lib.rt:135:1
 returns : tie.Need-returns
 unfolding firstLine cardsWord withdrawnWord book
 returns c =

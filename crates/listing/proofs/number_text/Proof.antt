@@ -9,31 +9,22 @@ use Rattle.listing.proofs.Lines.{minus, plain}
 use borrow.Author.Needs.{needs}
 use Rattle.listing.proofs.number_text.Statement.{statement}
 use Rattle.listing.proofs.number_text.Tie as tie
-use Rattle.listing.proofs.number_text.Reads as reads
-use Rattle.listing.proofs.number_text.Lts as lts
-use Rattle.listing.proofs.digits_of.Reads as digits-of-reads
-use Rattle.number.proofs.size.Reads as size-reads
 
--- src/lib.rt:39:27
 size-requires : tie.Need-size-requires
 size-requires c κs = search needs
 
--- src/lib.rt:39:17
 sized : (c : tie.After-size) → c .size .result ≡ natAbs (c .before .args .v)
 sized c = rw (toZ-ofZ (c .before .fits .v)) at (c .size .ensures)
 
 digits-of-requires : tie.Need-digits-of-requires
 digits-of-requires c κs = omega (arith, sized c, c .before .pre)
 
--- src/lib.rt:41:20
 sub-from : tie.Need-sub-from
 sub-from c = search needs
 
--- src/lib.rt:42:9
 element-write-t : tie.Need-element-write-t
 element-write-t c = search needs
 
--- src/lib.rt:35:1
 text : (c : tie.After-digits-of) → drop (c .digits-of .result .from) (c .digits-of .result .bytes) ≡ decimal (natAbs (c .before .before .args .v))
 text c = c .digits-of .ensures .0 ∙ ap decimal (sized (c .before))
 
@@ -44,7 +35,6 @@ returns c =
     let whole : length (d .result .bytes) ≡ 12 = search needs in
     (minus v (d .result .bytes) (d .result .from) (rw (toZ-ofZ (c .before .before .before .fits .v)) at (c .if1 .taken)) (d .ensures .1) (omega (arith, d .ensures .2)) (text (c .before)), omega (arith, d .ensures .2))
 
--- src/lib.rt:35:1
 returns-2 : tie.Need-returns-2
 returns-2 c = (text (c .before) ∙ plain (c .before .before .before .args .v) (rw (toZ-ofZ (c .before .before .before .fits .v)) at (c .if1 .left)), c .before .digits-of .ensures .2)
 

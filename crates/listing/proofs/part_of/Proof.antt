@@ -6,64 +6,48 @@ use Rattle.card.specs.Places.{lent, part-past, part-rest}
 use borrow.Author.Needs.{needs}
 use Rattle.listing.proofs.part_of.Statement.{statement}
 use Rattle.listing.proofs.part_of.Tie as tie
-use Rattle.listing.proofs.part_of.Reads as reads
-use Rattle.listing.proofs.part_of.Lts as lts
 
--- src/lib.rt:72:16
 sub-result : tie.Need-sub-result
 sub-result c = search needs
 
--- src/lib.rt:72:16
 part-result-start : tie.Need-part-result-start
 part-result-start c = search needs
 
--- src/lib.rt:72:16
 part-result-end : tie.Need-part-result-end
 part-result-end c = search needs
 
--- src/lib.rt:72:9
 returns : tie.Need-returns
 returns c = rw sub-self (sym (part-past (now (c .before .before .args .b)) (c .before .before .args .at) (c .before .before .args .n) (c .before .if1 .taken)))
 
--- src/lib.rt:74:8
 sub-if2 : tie.Need-sub-if2
 sub-if2 c = search needs
 
--- src/lib.rt:75:16
 sub-result-2 : tie.Need-sub-result-2
 sub-result-2 c = search needs
 
--- src/lib.rt:75:16
 part-result-start-2 : tie.Need-part-result-start-2
 part-result-start-2 c = search needs
 
--- src/lib.rt:75:16
 part-result-end-2 : tie.Need-part-result-end-2
 part-result-end-2 c = search needs
 
--- src/lib.rt:75:9
 returns-2 : tie.Need-returns-2
 returns-2 c =
     let a = c .before .before .before .args in
     part-rest (now (a .b)) (a .at) (a .n) (c .before .if2 .taken)
 
--- src/lib.rt:77:15
 add-end : tie.Need-add-end
 add-end c = search needs
 
--- src/lib.rt:78:5
 sub-result-3 : tie.Need-sub-result-3
 sub-result-3 c = search needs
 
--- src/lib.rt:78:5
 part-result-start-3 : tie.Need-part-result-start-3
 part-result-start-3 c = search needs
 
--- src/lib.rt:78:5
 part-result-end-3 : tie.Need-part-result-end-3
 part-result-end-3 c = search needs
 
--- src/lib.rt:67:1
 returns-3 : tie.Need-returns-3
 returns-3 c = lent _ _ _
 

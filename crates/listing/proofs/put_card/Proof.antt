@@ -5,7 +5,6 @@ use mathlib.Core.List.{[], _∷_, _++_}
 use native.Mathlib.Omega.{arith}
 use lib.ListN.{length, length-append}
 use denote.Ref.{now}
-use Rattle.card.specs.Places.{length-tab}
 use Rattle.card.specs.Serials.{textOf}
 use Rattle.card.specs.Cards.{fieldsAt}
 use Rattle.card.specs.declared.Card.{Card}
@@ -14,22 +13,13 @@ use Rattle.listing.proofs.Lines.{made-first, made-more, made-whole, tex
 use borrow.Author.Needs.{needs}
 use Rattle.listing.proofs.put_card.Statement.{statement}
 use Rattle.listing.proofs.put_card.Tie as tie
-use Rattle.listing.proofs.put_card.Reads as reads
-use Rattle.listing.proofs.put_card.Lts as lts
-use Rattle.card.proofs.Card.of.Reads as of-reads
-use Rattle.listing.proofs.put_fields.Reads as put-fields-reads
-use Rattle.listing.proofs.put_text.Reads as put-text-reads
-use Rattle.listing.proofs.text_of.Reads as text-of-reads
 
--- src/lib.rt:111:9
 of-requires : tie.Need-of-requires
 of-requires c κs = search needs
 
--- src/lib.rt:113:32
 text-of-requires : tie.Need-text-of-requires
 text-of-requires c κs = search needs
 
--- src/lib.rt:113:9
 short : (c : tie.After-text-of) → length (now (c .text-of .result)) ≤ 37
 short c = rw (c .text-of .ensures) (text-short (now (c .before .before .before .before .before .args .c)) 37 (c .before .before .before .before .before .pre))
 
@@ -43,22 +33,18 @@ fields-short8 c = rw (read (c .before .before .before .before)) (card-fields-sho
 put-text-requires : tie.Need-put-text-requires
 put-text-requires c κs = omega (arith, short c)
 
--- src/lib.rt:114:9
 put-fields-requires : tie.Need-put-fields-requires
 put-fields-requires c κs = omega (arith, c .before .put-text .ensures .0, short (c .before .before))
 
--- src/lib.rt:115:25
 slice-aggregate-put-text : tie.Need-slice-aggregate-put-text
 slice-aggregate-put-text c = search needs
 
--- src/lib.rt:115:5
 put-text-requires-2 : tie.Need-put-text-requires-2
 put-text-requires-2 c κs =
     let f = c .before .before in
     let p = f .before .before in
     omega (arith, f .put-fields .ensures .0, p .put-text .ensures .0, short (p .before), fields-short8 p)
 
--- src/lib.rt:107:1
 returns : tie.Need-returns
 unfolding cardText
 returns c =

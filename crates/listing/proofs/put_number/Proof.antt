@@ -9,35 +9,25 @@ use Rattle.listing.specs.Numbers.{signedDecimal}
 use borrow.Author.Needs.{needs}
 use Rattle.listing.proofs.put_number.Statement.{statement}
 use Rattle.listing.proofs.put_number.Tie as tie
-use Rattle.listing.proofs.put_number.Reads as reads
-use Rattle.listing.proofs.put_number.Lts as lts
-use Rattle.listing.proofs.number_text.Reads as number-text-reads
-use Rattle.listing.proofs.put_text.Reads as put-text-reads
 
--- src/lib.rt:62:9
 number-text-requires : tie.Need-number-text-requires
 number-text-requires c κs = search needs
 
--- src/lib.rt:65:24
 sub-put-text : tie.Need-sub-put-text
 sub-put-text c = search needs
 
--- src/lib.rt:65:24
 part-put-text-start : tie.Need-part-put-text-start
 part-put-text-start c = search needs
 
--- src/lib.rt:65:24
 whole : (c : tie.After-number-text) → length (c .number-text .result .bytes) ≡ 12
 whole c = search needs
 
 part-put-text-end : tie.Need-part-put-text-end
 part-put-text-end c = omega (arith, whole (c .before .before .before))
 
--- src/lib.rt:65:5
 put-text-requires : tie.Need-put-text-requires
 put-text-requires c κs = search needs
 
--- src/lib.rt:58:1
 text : (c : tie.After-number-text) → take (12 - c .number-text .result .from) (drop (c .number-text .result .from) (c .number-text .result .bytes)) ≡ signedDecimal (c .before .args .v)
 text c =
     let t = c .number-text .result in

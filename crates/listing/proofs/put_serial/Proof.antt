@@ -1,6 +1,5 @@
 -- `listing::put_serial` meets its contract.
 use Prim.Native.Nat.{_≤_}
-use mathlib.Core.Path.{_≡_}
 use mathlib.Core.List.{[], _∷_, _++_}
 use native.Mathlib.Omega.{arith}
 use lib.ListN.{length, length-append}
@@ -11,41 +10,30 @@ use Rattle.listing.proofs.Lines.{made-first, made-more, made-whole, tex
 use borrow.Author.Needs.{needs}
 use Rattle.listing.proofs.put_serial.Statement.{statement}
 use Rattle.listing.proofs.put_serial.Tie as tie
-use Rattle.listing.proofs.put_serial.Reads as reads
-use Rattle.listing.proofs.put_serial.Lts as lts
-use Rattle.listing.proofs.put_text.Reads as put-text-reads
-use Rattle.listing.proofs.text_of.Reads as text-of-reads
 
--- src/lib.rt:122:32
 slice-aggregate-put-text : tie.Need-slice-aggregate-put-text
 slice-aggregate-put-text c = search needs
 
--- src/lib.rt:122:9
 put-text-requires : tie.Need-put-text-requires
 put-text-requires c κs = search needs
 
--- src/lib.rt:123:34
 text-of-requires : tie.Need-text-of-requires
 text-of-requires c κs = search needs
 
--- src/lib.rt:123:9
 short : (c : tie.After-text-of) → length (now (c .text-of .result)) ≤ 13
 short c = rw (c .text-of .ensures) (text-short (now (c .before .before .before .before .before .before .args .e)) 13 (c .before .before .before .before .before .before .pre))
 
 put-text-requires-2 : tie.Need-put-text-requires-2
 put-text-requires-2 c κs = omega (arith, c .before .before .put-text .ensures .0, short c)
 
--- src/lib.rt:124:25
 slice-aggregate-put-text-2 : tie.Need-slice-aggregate-put-text-2
 slice-aggregate-put-text-2 c = search needs
 
--- src/lib.rt:124:5
 put-text-requires-3 : tie.Need-put-text-requires-3
 put-text-requires-3 c κs =
     let p = c .before .before in
     omega (arith, p .put-text2 .ensures .0, p .before .before .before .put-text .ensures .0, short (p .before))
 
--- src/lib.rt:118:1
 returns : tie.Need-returns
 unfolding serialText
 returns c =

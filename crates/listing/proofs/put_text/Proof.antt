@@ -7,19 +7,13 @@ use Rattle.card.specs.Places.{put-fits}
 use borrow.Author.Needs.{needs}
 use Rattle.listing.proofs.put_text.Statement.{statement}
 use Rattle.listing.proofs.put_text.Tie as tie
-use Rattle.listing.proofs.put_text.Reads as reads
-use Rattle.listing.proofs.put_text.Lts as lts
-use Rattle.card.proofs.put_at.Reads as put-at-reads
 
--- src/lib.rt:51:5
 put-at-requires : tie.Need-put-at-requires
 put-at-requires c κs = search needs
 
--- src/lib.rt:52:5
 add-result : tie.Need-add-result
 add-result c = search needs
 
--- src/lib.rt:47:1
 returns : tie.Need-returns
 returns c =
     let a = c .before .before .before .args in

@@ -11,17 +11,10 @@ use Rattle.listing.proofs.Lines.{part-short}
 use borrow.Author.Needs.{needs}
 use Rattle.listing.proofs.withdrawn_line.Statement.{statement}
 use Rattle.listing.proofs.withdrawn_line.Tie as tie
-use Rattle.listing.proofs.withdrawn_line.Reads as reads
-use Rattle.listing.proofs.withdrawn_line.Lts as lts
-use Rattle.book.proofs.withdrawn.Reads as withdrawn-reads
-use Rattle.listing.proofs.part_of.Reads as part-of-reads
-use Rattle.listing.proofs.put_serial.Reads as put-serial-reads
 
--- src/lib.rt:162:9
 withdrawn-requires : tie.Need-withdrawn-requires
 withdrawn-requires c κs = search needs
 
--- src/lib.rt:166:9
 count : (c : tie.After-withdrawn) → c .withdrawn .result .count ≡ withdrawn (now (c .before .before .args .book)) .count
 count c = ap (λ (s : Section). s .count) (c .withdrawn .ensures .0)
 
@@ -34,23 +27,18 @@ returns c =
     let l = le-ltb (c .before .before .before .args .k) _ (rw (count (c .before)) at (c .if1 .taken)) in
     (simp l, simp l (sym (put-none _ 0)))
 
--- src/lib.rt:168:43
 mul-part-of : tie.Need-mul-part-of
 mul-part-of c = search needs
 
--- src/lib.rt:168:36
 add-part-of : tie.Need-add-part-of
 add-part-of c = search needs
 
--- src/lib.rt:168:22
 part-of-requires : tie.Need-part-of-requires
 part-of-requires c κs = search needs
 
--- src/lib.rt:168:5
 put-serial-requires : tie.Need-put-serial-requires
 put-serial-requires c κs = rw (c .part-of .ensures) (part-short _ _ 13)
 
--- src/lib.rt:159:1
 returns-2 : tie.Need-returns-2
 unfolding withdrawnLine entryAt
 returns-2 c =
