@@ -6,3 +6,4 @@ pub mod Places
 pub mod Slots
 pub mod Wholes
 pub mod Tabled
+pub mod Decided

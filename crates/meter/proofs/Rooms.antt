@@ -46,8 +46,9 @@ flowing-more f v i k h p q = record { ii = square-more (f .ii) i k q (h .ii); vi
 pub room-more : (s : Sums) (v i raw : ℤ) (k : ℕ) → Room s k → mag v < 8388608 → mag i < 8388608 → Room (summed s v i raw) (k + 1)
 unfolding summed
 room-more s v i raw k h p q = record {
-    vv = square-more (s .vv) v k p (h .vv);
-    flow = flowing-more (s .flow) v i k (h .flow) p q }
+  vv = square-more (s .vv) v k p (h .vv);
+  flow = flowing-more (s .flow) v i k (h .flow) p q;
+}
 
 pub room-less : (s : Sums) (j k : ℕ) → j ≤ k → Room s j → Room s k
 room-less s j k l h = record { vv = omega (arith, h .vv); flow = record { ii = omega (arith, h .flow .ii); vi = omega (arith, h .flow .vi) } }

@@ -7,19 +7,17 @@ use card::Card;
 use interval::addresses;
 use interval::addresses::WordAddr;
 
-// Whether every sample is in the 24-bit range.
+// Whether every sample is in the 24-bit range. No branch a sample: a machine can test several at once.
 pub fn all_in_range(a: &[i32]) -> bool
     ensures { λ r. ⌜ r ≡ every24 (now (a .entry)) ⌝ }
 {
+    let mut ok = true;
     let mut k: usize = 0;
     while k < a.len() {
-        if number::in_range(a[k]) {
-            k += 1;
-        } else {
-            return false;
-        }
+        ok = ok & number::in_range(a[k]);
+        k += 1;
     }
-    true
+    ok
 }
 
 // Whether a card's PHASE is in its range.

@@ -7,8 +7,10 @@ ghost use Rattle.meter.specs.Sound.{Sound};
 ghost use Rattle.meter.specs.Core.{withSums, closedWork, begunOf, endOf, stretchOf, fedOf};
 ghost use Rattle.meter.specs.Blocks.{soundOf, carded, blockOf};
 ghost use Rattle.meter.specs.Starting.{freshOf, startOf, notStarted};
+
 mod checks;
 mod samples;
+
 use card::Card;
 use card::Serial;
 use interval::addresses::WordAddr;

@@ -79,7 +79,7 @@ fn take(s: Sums, p: Probe, v: i32, now: i32, old: i32, raw: i32) -> Sums
 }
 
 // The corrected current before a sample whose raw current is raw.
-fn before(s: Sums, p: Probe, raw: i32) -> i32
+fn corrected_before(s: Sums, p: Probe, raw: i32) -> i32
     ensures { λ r. ⌜ r ≡ corrected (previous s raw) (p .ioffs) (p .igain) ⌝ }
 {
     if s.seen {
@@ -116,6 +116,6 @@ pub(crate) fn run(s0: Sums, c: Card, v: &[i32], i: &[i32]) -> Sums
         return s0;
     }
     let p = probe_of(c);
-    let first = before(s0, p, i[0]);
+    let first = corrected_before(s0, p, i[0]);
     run_with(s0, p, first, v, i)
 }

@@ -1,30 +1,33 @@
+-- `sound` meets its contract.
+use mir.Syntax.{w64}
+use mir.Val.{SFits}
+use mir.Facts.{toZ-ofZ}
+use Rattle.meter.specs.Blocks.{soundOf}
 use borrow.Author.Needs.{needs}
 use Rattle.meter.proofs.Meter.sound.Statement.{statement}
 use Rattle.meter.proofs.Meter.sound.Tie as tie
-use Rattle.meter.proofs.Meter.sound.Reads as reads
-use Rattle.meter.proofs.Meter.sound.Lts as lts
-use Rattle.meter.proofs.checks.phase_in_range.Reads as phase-in-range-reads
-use Rattle.number.proofs.size.Reads as size-reads
 
--- src/lib.rt:172:17
 cast-n : tie.Need-cast-n
 cast-n c = search needs
 
--- src/lib.rt:173:13
 size-requires : tie.Need-size-requires
 size-requires c κs = search needs
 
--- src/lib.rt:174:13
 phase-in-range-requires : tie.Need-phase-in-range-requires
 phase-in-range-requires c κs = search needs
 
--- src/lib.rt:175:13
 phase-in-range-requires-2 : tie.Need-phase-in-range-requires-2
 phase-in-range-requires-2 c κs = search needs
 
--- src/lib.rt:164:5
+vi-fits : (c : tie.After-struct-told) → SFits w64 (c .before .before .before .before .before .args .self .work .sums .flow .vi)
+vi-fits c = search needs
+
 returns : tie.Need-returns
-returns c = ?
+unfolding soundOf
+returns c =
+    let q = c .before .before .before .before in
+    let z = q .before .before in
+    rw (q .phase-in-range2 .ensures, q .before .phase-in-range .ensures, z .size .ensures, toZ-ofZ (vi-fits (z .before)))
 
 pub sound-spec : {M : Type 1} → statement M
 sound-spec =
