@@ -3,3 +3,4 @@ pub mod Sides
 pub mod Steps
 pub mod Registers
 pub mod Writes
+pub mod Decided

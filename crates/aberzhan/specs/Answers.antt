@@ -1,6 +1,8 @@
 -- Document 01's number and values for each answer.
 use Prim.Native.Nat.{ℕ}
 use Rattle.steps.specs.Answers.{OrRefusal, refused, accepted}
+use Rattle.meter.specs.declared.Answer.{Answer as Measured}
+use Rattle.meter.specs.declared.Answer.the-variants.{Done as MeterDone, Refused as MeterRefused}
 use Rattle.aberzhan.specs.declared.answers.Answer.{Answer}
 use Rattle.aberzhan.specs.declared.answers.Answer.the-variants.{Done, Value, Refused}
 use Rattle.aberzhan.specs.declared.desks.Desk.{Desk}
@@ -20,3 +22,8 @@ telling (register v) = Value v
 abbrev pub looked : OrRefusal Told → Answer
 looked (refused n) = Refused n
 looked (accepted t) = telling t
+
+-- the meter's answer
+unfoldable pub measured : Measured → Answer
+measured MeterDone = Done
+measured (MeterRefused n) = Refused n

@@ -6,13 +6,17 @@ use mathlib.Core.Option.{Option}
 use lib.IntN.{ℤ}
 use Rattle.steps.specs.Answers.{refused, accepted}
 use Rattle.steps.specs.Port.{Port, on}
-use Rattle.steps.specs.Module.{Op, edit, commit, dropCard, hold, read, atPort, State, withMeter, withDesk, withHeld, Report, silent, commits, tells, closes, Outcome, step}
+use Rattle.steps.specs.Module.{Op, edit, commit, dropCard, hold, read, atPort, State, fresh, withMeter, withDesk, withHeld, Report, silent, commits, tells, closes, Outcome, step}
 use Rattle.steps.specs.Gauge.{waitsFor}
 use Rattle.card.specs.declared.Serial.{Serial}
 use Rattle.card.specs.declared.Card.{Card}
 use Rattle.card.specs.Serials.{noSerial}
+use Rattle.interval.specs.declared.addresses.WordAddr.{WordAddr}
 use Rattle.interval.specs.declared.addresses.ByteAddr.{ByteAddr}
+use Rattle.meter.specs.declared.Meter.{Meter}
 use Rattle.meter.specs.Core.{core, seen as seenMeter, kept as keptMeter}
+use Rattle.meter.specs.Blocks.{blockOf as meterBlock}
+use Rattle.meter.specs.Starting.{startOf as meterStart}
 use Rattle.aberzhan.specs.declared.answers.Answer.{Answer}
 use Rattle.aberzhan.specs.declared.answers.Answer.the-variants.{Done, Refused}
 use Rattle.aberzhan.specs.declared.desks.Desk.{Desk}
@@ -23,7 +27,7 @@ use Rattle.aberzhan.specs.declared.Stepped.{Stepped}
 use Rattle.aberzhan.specs.declared.Holding.{Holding}
 use Rattle.aberzhan.specs.Desks.{openWith, writeField}
 use Rattle.aberzhan.specs.Holds.{Value, interval, register}
-use Rattle.aberzhan.specs.Answers.{telling}
+use Rattle.aberzhan.specs.Answers.{telling, measured}
 use Rattle.aberzhan.specs.Ports.{aberzhan, portAt, sideOf}
 
 -- ---- the struct and the state are the same thing seen two ways
@@ -106,6 +110,21 @@ holdOf m port = holding m (atPortOf m port (hold tt))
 
 unfoldable pub readOf : Module → ℤ → ByteAddr → Stepped
 readOf m port address = stepped m (atPortOf m port (read address))
+
+-- a block is the meter's (`proofs/Agreement.antt`: it is the step of crate `steps` for whatever a start and steps make)
+unfoldable pub meterPut : Module → Meter → Module
+meterPut m n = kept (withMeter aberzhan (seenMeter n) (seen m))
+
+unfoldable pub blockOf : Module → List ℤ → List ℤ → Stepped
+blockOf m v i = let r = meterBlock (m .meter) v i in record { answer = measured (r .answer); after = meterPut m (r .after) }
+
+-- ---- the start
+
+unfoldable pub freshModule : Meter → Module
+freshModule m = kept (fresh aberzhan (seenMeter m))
+
+unfoldable pub startOf : ℤ → ℤ → List WordAddr → Stepped
+startOf n b track = let r = meterStart n b track in record { answer = measured (r .answer); after = freshModule (r .after) }
 
 -- ---- parts of the steps, for a port that is 0 or 1
 

@@ -22,7 +22,7 @@ pub struct Desked {
 }
 
 impl Desk {
-    pub fn shut() -> Desk
+    pub(crate) fn shut() -> Desk
         ensures { λ r. ⌜ r ≡ shutDesk ⌝ }
     {
         let none = Serial::none();
@@ -35,7 +35,7 @@ impl Desk {
     }
 
     // A card with a serial and nothing written yet.
-    pub fn begun(serial: Serial) -> Desk
+    pub(crate) fn begun(serial: Serial) -> Desk
         ensures { λ r. ⌜ r ≡ emptyCard serial ⌝ }
     {
         Desk {
@@ -47,7 +47,7 @@ impl Desk {
     }
 
     // Open with a serial: 9, 1.
-    pub fn open_with(self, serial: &[u8]) -> Desked
+    pub(crate) fn open_with(self, serial: &[u8]) -> Desked
         ensures { λ r. ⌜ r ≡ desked self (opening self (now (serial .entry))) ⌝ }
     {
         if self.opened {
@@ -81,7 +81,7 @@ impl Desk {
     }
 
     // Write field, value: 10, 11, 12.
-    pub fn write_field(self, field: i64, value: i64) -> Desked
+    pub(crate) fn write_field(self, field: i64, value: i64) -> Desked
         ensures { λ r. ⌜ r ≡ desked self (writing self field value) ⌝ }
     {
         if self.opened {
@@ -110,7 +110,7 @@ impl Desk {
     }
 
     // Whether each of the eight fields was written.
-    pub fn all_written(self) -> bool
+    pub(crate) fn all_written(self) -> bool
         ensures { λ r. ⌜ r ≡ allWritten (self .written) ⌝ }
     {
         let w = self.written;
@@ -123,7 +123,7 @@ impl Desk {
         ok
     }
 
-    pub fn card(self) -> Card
+    pub(crate) fn card(self) -> Card
         ensures { λ r. ⌜ r ≡ cardOn self ⌝ }
     {
         let serial = self.serial;

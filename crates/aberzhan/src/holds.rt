@@ -22,7 +22,7 @@ pub struct Held {
 }
 
 // Whether the register at place k of the table is the MIN or MAX of a slot that is off.
-pub fn slot_off(track: [WordAddr; 6], k: usize) -> bool
+fn slot_off(track: [WordAddr; 6], k: usize) -> bool
     ensures { λ r. ⌜ r ≡ slotOff track k ⌝ }
 {
     if k < 9 {
@@ -63,8 +63,23 @@ fn register(r: Registers, k: usize) -> i64
 }
 
 impl Held {
+    // Blank, with the last interval of a fresh meter.
+    pub(crate) fn nothing() -> Held
+        ensures { λ r. ⌜ r ≡ nothingHeld ⌝ }
+    {
+        let track = [WordAddr(0); 6];
+        let m = meter::fresh(1, 1, track);
+        let w = m.work;
+        let closed = w.last;
+        Held {
+            some: false,
+            closed,
+            track,
+        }
+    }
+
     // All registers as they stood at the last close.
-    pub fn of(w: Work) -> Held
+    pub(crate) fn of(w: Work) -> Held
         ensures { λ r. ⌜ r ≡ copyOf w ⌝ }
     {
         let closed = w.last;
@@ -78,7 +93,7 @@ impl Held {
     }
 
     // Read byte address: 15, 16, 17.
-    pub fn look(self, address: ByteAddr) -> Answer
+    pub(crate) fn look(self, address: ByteAddr) -> Answer
         ensures { λ r. ⌜ r ≡ looked (look self address) ⌝ }
     {
         if self.some {

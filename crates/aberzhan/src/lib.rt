@@ -1,7 +1,8 @@
 // The module: two ports that stage cards and hold readings, before the meter.
 ghost use mathlib.Core.Path.{_≡_};
 ghost use Rattle.aberzhan.specs.Ports.{isPort};
-ghost use Rattle.aberzhan.specs.Module.{deskAt, holdAt, deskPut, holdPut, waitPut, editedAt, openOf, writeOf, commitOf, dropOf, holdOf, readOf, notHeld};
+ghost use Rattle.aberzhan.specs.Module.{deskAt, holdAt, deskPut, holdPut, waitPut, meterPut, editedAt, openOf, writeOf, commitOf, dropOf, holdOf, readOf, blockOf, notHeld, freshModule, startOf};
+ghost use Rattle.aberzhan.specs.Answers.{measured};
 
 pub mod answers;
 pub mod desks;
@@ -14,6 +15,7 @@ use desks::Desk;
 use desks::Desked;
 use holds::Held;
 use interval::addresses::ByteAddr;
+use interval::addresses::WordAddr;
 use meter::Meter;
 
 // What each step takes and hands back. Port k has the desk and the hold with its number.
@@ -39,6 +41,16 @@ pub struct Holding {
     pub after: Module,
 }
 
+// The meter's answer as the module's.
+fn answer_of(a: meter::Answer) -> Answer
+    ensures { λ r. ⌜ r ≡ measured a ⌝ }
+{
+    match a {
+        meter::Answer::Done => Answer::Done,
+        meter::Answer::Refused(n) => Answer::Refused(n),
+    }
+}
+
 // Ports are 0 and 1.
 fn is_port(port: i64) -> bool
     ensures { λ r. ⌜ r ≡ isPort port ⌝ }
@@ -47,6 +59,33 @@ fn is_port(port: i64) -> bool
 }
 
 impl Module {
+    // No port is open, nothing is held.
+    fn fresh(m: Meter) -> Module
+        ensures { λ r. ⌜ r ≡ freshModule m ⌝ }
+    {
+        let shut = Desk::shut();
+        let nothing = Held::nothing();
+        Module {
+            meter: m,
+            desk0: shut,
+            desk1: shut,
+            hold0: nothing,
+            hold1: nothing,
+        }
+    }
+
+    // A start with N, B and the six words to track: 7.
+    pub fn start(n: i64, b: i64, track: [WordAddr; 6]) -> Stepped
+        ensures { λ r. ⌜ r ≡ startOf n b track ⌝ }
+    {
+        let r = meter::start(n, b, track);
+        let a = r.answer;
+        let answer = answer_of(a);
+        let m = r.after;
+        let after = Module::fresh(m);
+        Stepped { answer, after }
+    }
+
     fn desk(self, port: i64) -> Desk
         ensures { λ r. ⌜ r ≡ deskAt self port ⌝ }
     {
@@ -242,5 +281,25 @@ impl Module {
             answer: Answer::Refused(8),
             after: self,
         }
+    }
+
+    fn with_meter(mut self, m: Meter) -> Module
+        ensures { λ r. ⌜ r ≡ meterPut self m ⌝ }
+    {
+        self.meter = m;
+        self
+    }
+
+    // A block of samples, voltage and current: 5, 6, 18.
+    pub fn block(self, v: &[i32], i: &[i32]) -> Stepped
+        ensures { λ r. ⌜ r ≡ blockOf self (now (v .entry)) (now (i .entry)) ⌝ }
+    {
+        let m = self.meter;
+        let r = m.block(v, i);
+        let a = r.answer;
+        let answer = answer_of(a);
+        let n = r.after;
+        let after = self.with_meter(n);
+        Stepped { answer, after }
     }
 }
