@@ -1,23 +1,26 @@
--- `cardlist::print_cards` ends and does nothing undefined.
-use Prim.Native.Nat.{_-_}
+-- `cardlist::print_entries` ends and does nothing undefined.
 use borrow.Author.Needs.{needs}
-use Rattle.cardlist.proofs.print_cards.Statement.{statement}
-use Rattle.cardlist.proofs.print_cards.Tie as tie
+use Prim.Native.Nat.{_-_}
+use Rattle.cardlist.proofs.print_entries.Statement.{statement}
+use Rattle.cardlist.proofs.print_entries.Tie as tie
 
 abbrev Inv-loop : tie.InvT-loop
-Inv-loop book line₀ k₀ line k = Unit {0}
+Inv-loop book line₀ at₀ k₀ line at k = Unit {0}
 
 abbrev μ-loop : tie.MeasureT-loop
-μ-loop book line₀ k₀ line k = 1024 - k
+μ-loop book line₀ at₀ k₀ line at k = 1536 - k
 
 loop-holds : tie.Need-loop-holds Inv-loop μ-loop
 loop-holds c = tt
 
-card-line-requires : tie.Need-card-line-requires Inv-loop μ-loop
-card-line-requires c κs = search needs
+entry-line-requires : tie.Need-entry-line-requires Inv-loop μ-loop
+entry-line-requires c κs = search needs
 
 print-requires : tie.Need-print-requires Inv-loop μ-loop
 print-requires c κs = search needs
+
+read-requires : tie.Need-read-requires Inv-loop μ-loop
+read-requires c κs = search needs
 
 add-k : tie.Need-add-k Inv-loop μ-loop
 add-k c = search needs
@@ -31,15 +34,16 @@ loop-again c = tt
 returns : tie.Need-returns Inv-loop μ-loop
 returns c = tt
 
-pub print-cards-spec : {M : Type 1} → statement M
-print-cards-spec =
+pub print-entries-spec : {M : Type 1} → statement M
+print-entries-spec =
     tie.close
     (tie.spec
     Inv-loop
     μ-loop
     loop-holds
-    card-line-requires
+    entry-line-requires
     print-requires
+    read-requires
     add-k
     loop-less
     loop-again
