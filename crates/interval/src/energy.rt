@@ -16,7 +16,7 @@ impl Energy {
     }
 
     // An amount joins the remainder. Both are divided apart, so that no sum of them can wrap; `carry` is the bucket that their remainders fill together.
-    pub fn advance(self, amount: u64, bucket: u64) -> Energy
+    pub fn advanced(self, amount: u64, bucket: u64) -> Energy
         ensures { λ r. ⌜ r ≡ advanced self amount bucket ⌝ }
     {
         if bucket == 0 {
@@ -46,7 +46,7 @@ impl Energy {
         ensures { λ r. ⌜ r ≡ joinedBy own self amount bucket ⌝ }
     {
         if own {
-            return self.advance(amount, bucket);
+            return closed(self, amount, bucket);
         }
         self
     }
@@ -64,4 +64,20 @@ impl Energy {
     {
         self.join(p < 0, number::size(p as i64) * n as u64, bucket)
     }
+}
+
+// The record lent, and advanced where it lies.
+pub fn advance(e: &mut Energy, amount: u64, bucket: u64)
+    ensures { λ _. ⌜ now (e .exit) ≡ advanced (now (e .entry)) amount bucket ⌝ }
+{
+    *e = Energy::advanced(*e, amount, bucket);
+}
+
+// An interval closes: its direction's record is lent and taken back.
+fn closed(e: Energy, amount: u64, bucket: u64) -> Energy
+    ensures { λ r. ⌜ r ≡ advanced e amount bucket ⌝ }
+{
+    let mut x = e;
+    advance(&mut x, amount, bucket);
+    x
 }
