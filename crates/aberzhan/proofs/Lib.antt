@@ -10,3 +10,5 @@ pub mod Program
 pub mod Demand3
 pub mod Energy
 pub mod Wholes
+pub mod Day
+pub mod Table

@@ -10,3 +10,5 @@ pub mod Calls
 pub mod Demand3
 pub mod EnergyHistory
 pub mod Intervals
+pub mod Day
+pub mod Table
