@@ -1,11 +1,18 @@
 // Energy: one direction's count and remainder, advanced here and nowhere else.
 ghost use mathlib.Core.Path.{_≡_};
 ghost use Prim.Native.Nat.{_≤_};
-ghost use Rattle.interval.specs.Energies.{advanced, joinedBy, plusAfter, minusAfter, noEnergy};
+ghost use Rattle.interval.specs.Energies.{advanced, joinedBy, amountOf, plusAfter, minusAfter, noEnergy};
 
 pub struct Energy {
     pub count: u32,
     pub rest: u64,
+}
+
+// What an interval of n samples with active power p adds to the direction of its sign.
+fn amount(p: i32, n: u32) -> u64
+    ensures { λ r. ⌜ r ≡ amountOf p n ⌝ }
+{
+    number::size(p as i64) * n as u64
 }
 
 impl Energy {
@@ -55,14 +62,14 @@ impl Energy {
     pub fn plus_after(self, p: i32, n: u32, bucket: u64) -> Energy
         ensures { λ r. ⌜ r ≡ plusAfter p n bucket self ⌝ }
     {
-        self.join(0 < p, number::size(p as i64) * n as u64, bucket)
+        self.join(0 < p, amount(p, n), bucket)
     }
 
     // The direction of a power below 0.
     pub fn minus_after(self, p: i32, n: u32, bucket: u64) -> Energy
         ensures { λ r. ⌜ r ≡ minusAfter p n bucket self ⌝ }
     {
-        self.join(p < 0, number::size(p as i64) * n as u64, bucket)
+        self.join(p < 0, amount(p, n), bucket)
     }
 }
 
