@@ -6,3 +6,4 @@ pub mod Grown
 pub mod Changes
 pub mod Promises
 pub mod Exact
+pub mod Decided

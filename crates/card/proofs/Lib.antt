@@ -3,3 +3,4 @@ pub mod Serials
 pub mod Fields
 pub mod Cards
 pub mod RoundTrip
+pub mod Decided

@@ -1,19 +1,15 @@
 // Prints the card book on standard input: document 01, "The listing". Every line is made by the library.
 use libc::STDOUT_FILENO;
 
-fn print_cards(book: &[u8]) {
+// The reader's place goes from entry to entry; a book has at most 1,024 cards and 512 withdrawn serials.
+fn print_entries(book: &[u8]) {
     let mut line = [0u8; 160];
-    for k in 0..1024usize {
-        let n = listing::card_line(book, k, &mut line);
+    let mut at: usize = 2;
+    for k in 0..1536usize {
+        let n = listing::entry_line(book, at, &mut line);
         print(line, n);
-    }
-}
-
-fn print_withdrawn(book: &[u8]) {
-    let mut line = [0u8; 160];
-    for k in 0..512usize {
-        let n = listing::withdrawn_line(book, k, &mut line);
-        print(line, n);
+        let s = reader::read(book, at);
+        at = s.next;
     }
 }
 
@@ -28,8 +24,7 @@ fn print_book(book: &[u8]) {
     if book::is_book(book) {
         let n = listing::first_line(book, &mut line);
         print(line, n);
-        print_cards(book);
-        print_withdrawn(book);
+        print_entries(book);
     } else {
         let n = listing::refused_line(&mut line);
         print(line, n);

@@ -6,7 +6,7 @@ ghost use lib.ListN.{length, drop};
 ghost use Rattle.card.specs.Places.{part, put};
 ghost use Rattle.listing.specs.Numbers.{decimal, signedDecimal};
 ghost use Rattle.card.specs.Serials.{textOf};
-ghost use Rattle.listing.specs.Lines.{fieldsText, cardText, serialText, refusedLine, firstLine, cardLine, withdrawnLine};
+ghost use Rattle.listing.specs.Lines.{fieldsText, cardText, serialText, refusedLine, firstLine, entryLine};
 
 // A number as text: the bytes from a place on.
 pub struct Text {
@@ -147,26 +147,17 @@ pub fn first_line(book: &[u8], line: &mut [u8; 160]) -> usize
     put_text(line, d, b"\n")
 }
 
-// The line of card k, from 0; none past the last.
-pub fn card_line(book: &[u8], k: usize, line: &mut [u8; 160]) -> usize
-    ensures { λ r. ⌜ (r ≡ length (cardLine (now (book .entry)) k)) × (now (line .exit) ≡ put (now (line .entry)) 0 (cardLine (now (book .entry)) k)) ⌝ }
+// The line of what a reader finds at a place: a card, a withdrawn serial, or nothing at the end.
+pub fn entry_line(book: &[u8], at: usize, line: &mut [u8; 160]) -> usize
+    ensures { λ r. ⌜ (r ≡ length (entryLine (now (book .entry)) at)) × (now (line .exit) ≡ put (now (line .entry)) 0 (entryLine (now (book .entry)) at)) ⌝ }
 {
-    let n = book::cards(book).count;
-    if n <= k {
-        return 0;
+    let s = reader::read(book, at);
+    let from = s.at;
+    if s.card {
+        return put_card(line, part_of(book, from, 37));
     }
-    put_card(line, part_of(book, 2 + k * 37, 37))
-}
-
-// The line of withdrawn serial k, from 0; none past the last.
-pub fn withdrawn_line(book: &[u8], k: usize, line: &mut [u8; 160]) -> usize
-    ensures { λ r. ⌜ (r ≡ length (withdrawnLine (now (book .entry)) k)) × (now (line .exit) ≡ put (now (line .entry)) 0 (withdrawnLine (now (book .entry)) k)) ⌝ }
-{
-    let s = book::withdrawn(book);
-    let base = s.base;
-    let n = s.count;
-    if n <= k {
-        return 0;
+    if s.withdrawn {
+        return put_serial(line, part_of(book, from, 13));
     }
-    put_serial(line, part_of(book, base + k * 13, 13))
+    0
 }

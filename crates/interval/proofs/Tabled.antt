@@ -1,0 +1,19 @@
+-- C1 to C12 hold: the whole table computes to what document 01 says.
+use mathlib.Core.Path.{_≡_, refl}
+use mathlib.Core.List.{map}
+use lib.IntN.{ℤ}
+use Rattle.number.specs.Range.{clipped, heldWithin}
+use Rattle.number.specs.Sign.{withSign, lessened}
+use Rattle.number.specs.Rounding.{floorDiv, towardZero}
+use Rattle.number.specs.Root.{rootOf, rootBy}
+use Rattle.interval.specs.Sample.{corrected, mixed, voltage, current, phased}
+use Rattle.interval.specs.Sums.{joined, previous, summed, added, addedAll}
+use Rattle.interval.specs.Rules.{rms, squelched, activeOf, apparentOf, factorOf, crestOf}
+use Rattle.interval.specs.Source.{vrmsOf, irmsOf, wattOf, ipeakOf, six, figuresOf}
+use Rattle.interval.specs.Energies.{advanced, joinedBy, plusAfter, minusAfter}
+use Rattle.interval.specs.Close.{sourceAfter, sevenOf, registersAfter, numberAfter, closedOf}
+use Rattle.interval.specs.Figures.{plain, having, interval, vrms, figure, irms, watt, currents, volts, lowest, minusFive, once, twice, beyond, figures}
+
+pub c1-to-c12 : map (λ (f : ℤ × ℤ). f .0) figures ≡ map (λ (f : ℤ × ℤ). f .1) figures
+unfolding figures plain having interval vrms figure irms watt currents volts lowest minusFive once twice beyond voltage current previous phased joined summed added addedAll corrected mixed clipped heldWithin floorDiv towardZero withSign lessened rootOf rootBy rms squelched activeOf apparentOf factorOf crestOf advanced joinedBy plusAfter minusAfter vrmsOf irmsOf wattOf ipeakOf six figuresOf sourceAfter sevenOf registersAfter numberAfter closedOf
+c1-to-c12 = refl

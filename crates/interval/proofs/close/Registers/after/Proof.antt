@@ -1,0 +1,44 @@
+-- `Registers::after` meets its contract.
+use mathlib.Core.Path.{_≡_, refl, ap, _∙_}
+use Prim.Native.Nat.{_≤_}
+use mir.Syntax.{w32}
+use mir.Val.{toZ}
+use lib.IntN.{pos}
+use Rattle.interval.specs.Source.{vrmsOf}
+use Rattle.interval.specs.Close.{registersAfter}
+use Rattle.interval.proofs.Bounds.{rms-most, small-fits, read-small}
+use borrow.Author.Needs.{needs}
+use Rattle.interval.proofs.close.Registers.after.Statement.{statement}
+use Rattle.interval.proofs.close.Registers.after.Tie as tie
+
+vrms-requires : tie.Need-vrms-requires
+vrms-requires c κs = search needs
+
+volts-most : (c : tie.After-vrms) → c .vrms .result ≤ 8388607
+unfolding vrmsOf
+volts-most c = rw (c .vrms .ensures) (rms-most _ _ _)
+
+cast-v : tie.Need-cast-v
+cast-v c = small-fits (volts-most c)
+
+after-requires : tie.Need-after-requires
+after-requires c κs = search needs
+
+seven-of-requires : tie.Need-seven-of-requires
+seven-of-requires c κs = search needs
+
+follow-requires : tie.Need-follow-requires
+follow-requires c κs = search needs
+
+returns : tie.Need-returns
+unfolding registersAfter
+returns c =
+    let seven = c .before .before .before in
+    let source = seven .before .before in
+    let v = source .before .before .before in
+    rw (c .follow .ensures, seven .seven-of .ensures, source .after .ensures, read-small (v .vrms .result) (volts-most v), v .vrms .ensures)
+
+pub after-spec : {M : Type 1} → statement M
+after-spec =
+    tie.close
+    (tie.spec vrms-requires cast-v after-requires seven-of-requires follow-requires returns)

@@ -1,0 +1,28 @@
+-- `higher` meets its contract.
+use mir.Facts.{toZ-ofZ}
+use Rattle.interval.specs.Tracking.{highest}
+use Rattle.interval.proofs.track.higher.Statement.{statement}
+use Rattle.interval.proofs.track.higher.Tie as tie
+
+returns : tie.Need-returns
+unfolding highest
+returns c = rw (toZ-ofZ (c .before .fits .now), c .if1 .taken)
+
+returns-2 : tie.Need-returns-2
+unfolding highest
+returns-2 c =
+    let f = c .before .before .fits in
+    let n = f .now in
+    let o = f .old in
+    rw (toZ-ofZ (f .now), c .before .if1 .left, simp toZ-ofZ at (c .if2 .taken))
+
+returns-3 : tie.Need-returns-3
+unfolding highest
+returns-3 c =
+    let f = c .before .before .fits in
+    let n = f .now in
+    let o = f .old in
+    rw (toZ-ofZ (f .old), c .before .if1 .left, simp toZ-ofZ at (c .if2 .left))
+
+pub higher-spec : {M : Type 1} → statement M
+higher-spec = tie.close (tie.spec returns returns-2 returns-3)

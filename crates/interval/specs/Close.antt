@@ -1,0 +1,58 @@
+-- The close of an interval: what is shown afterwards, of the card, the sums, the number n of samples, and what was shown before.
+use Prim.Native.Nat.{ℕ, _+_, _%_, _^_}
+use mathlib.Core.Bool.{Bool}
+use mathlib.Core.List.{List, _∷_}
+use lib.IntN.{ℤ, pos}
+use lib.ListN.{replicate}
+use Rattle.card.specs.declared.Card.{Card}
+use Rattle.card.specs.Serials.{noSerial}
+use Rattle.interval.specs.declared.sums.Flow.{Flow}
+use Rattle.interval.specs.declared.sums.Sums.{Sums}
+use Rattle.interval.specs.declared.close.Settings.{Settings}
+use Rattle.interval.specs.declared.close.Source.{Source}
+use Rattle.interval.specs.declared.close.Registers.{Registers}
+use Rattle.interval.specs.declared.close.Closed.{Closed}
+use Rattle.interval.specs.Source.{vrmsOf, figuresOf, wattOf}
+use Rattle.interval.specs.Energies.{plusAfter, minusAfter, noEnergy}
+use Rattle.interval.specs.Tracking.{followed}
+
+-- one current source: its six figures, and both directions' energy; v is VRMS, b the bucket
+unfoldable pub sourceAfter : Card → ℕ → Flow → ℕ → ℕ → Source → Source
+sourceAfter c v f n b old = record {
+  figures = figuresOf c v f n;
+  plus = plusAfter (wattOf c f n) n b (old .plus);
+  minus = minusAfter (wattOf c f n) n b (old .minus);
+}
+
+-- the seven that can be tracked, in the table's order: VRMS, and the figures of source A
+unfoldable pub sevenOf : ℤ → List ℤ → List ℤ
+sevenOf v figures = v ∷ figures
+
+-- all registers; `first` at the module's first close
+unfoldable pub registersAfter : Bool → Settings → Card → Sums → ℕ → Registers → Registers
+registersAfter first t c s n old =
+    let v = vrmsOf (s .vv) n in
+    let a = sourceAfter c v (s .flow) n (t .b) (old .a) in
+    record { vrms = pos v; a = a; ends = followed first (t .track) (sevenOf (pos v) (a .figures)) (old .ends) }
+
+-- after 4,294,967,295 comes 0
+unfoldable pub numberAfter : ℕ → ℕ
+numberAfter n = (n + 1) % 2 ^ 32
+
+-- the closed interval: its number, the serial of its card, and the registers as they now stand
+unfoldable pub closedOf : Bool → Settings → Card → Sums → ℕ → Closed → Closed
+closedOf first t c s n old = record {
+  number = numberAfter (old .number);
+  serial = c .serial;
+  regs = registersAfter first t c s n (old .regs);
+}
+
+-- before any interval has closed: number 0, so that the first is 1; counts and remainders 0
+abbrev pub noSource : Source
+noSource = record { figures = replicate 6 (pos 0); plus = noEnergy; minus = noEnergy }
+
+abbrev pub noRegisters : Registers
+noRegisters = record { vrms = pos 0; a = noSource; ends = record { low = replicate 6 (pos 0); high = replicate 6 (pos 0) } }
+
+abbrev pub noneClosed : Closed
+noneClosed = record { number = 0; serial = noSerial; regs = noRegisters }

@@ -1,0 +1,96 @@
+-- Figures to check by, C1 to C12, as one table: what the definitions give, and what document 01 says. Gain one and other fields 0 unless said.
+use Prim.Native.Nat.{ℕ, _-_}
+use mathlib.Core.Bool.{Bool, true}
+use mathlib.Core.List.{List, [], _∷_, map}
+use lib.IntN.{ℤ, pos, negsuc}
+use lib.ListN.{getD, set, length, replicate}
+use Rattle.card.specs.declared.Card.{Card}
+use Rattle.card.specs.Serials.{noSerial}
+use Rattle.interval.specs.declared.energy.Energy.{Energy}
+use Rattle.interval.specs.declared.close.Settings.{Settings}
+use Rattle.interval.specs.declared.close.Registers.{Registers}
+use Rattle.interval.specs.Sample.{voltage, phased}
+use Rattle.interval.specs.Sums.{Sample, addedAll, noSums}
+use Rattle.interval.specs.Energies.{plusAfter, noEnergy}
+use Rattle.interval.specs.Tracking.{off}
+use Rattle.interval.specs.Close.{closedOf, noneClosed}
+
+-- gain one and other fields 0
+unfoldable pub plain : Card
+plain = record { serial = noSerial; fields = pos 0 ∷ pos 0 ∷ pos 2097152 ∷ pos 2097152 ∷ pos 0 ∷ pos 0 ∷ pos 0 ∷ pos 0 ∷ [] }
+
+-- a card with field k set to x
+unfoldable pub having : ℕ → ℤ → Card → Card
+having k x c = record { serial = c .serial; fields = set (c .fields) (k - 1) x }
+
+-- a module's first interval, with these samples
+unfoldable pub interval : Card → List Sample → Registers
+interval c xs =
+    let t : Settings = record { n = length xs; b = 1; track = replicate 6 off } in
+    closedOf true t c (addedAll c noSums xs) (length xs) noneClosed .regs
+
+unfoldable pub vrms : Card → List Sample → ℤ
+vrms c xs = interval c xs .vrms
+
+-- figure k of source A: IRMS, IPEAK, P, S, PF, crest, from 0
+unfoldable pub figure : ℕ → Card → List Sample → ℤ
+figure k c xs = getD (interval c xs .a .figures) k (pos 0)
+
+unfoldable pub irms : Card → List Sample → ℤ
+irms c xs = figure 0 c xs
+
+unfoldable pub watt : Card → List Sample → ℤ
+watt c xs = figure 2 c xs
+
+-- samples of the current alone, and of the voltage alone
+unfoldable pub currents : List ℤ → List Sample
+currents xs = map (λ (i : ℤ). (pos 0, i)) xs
+
+unfoldable pub volts : List ℤ → List Sample
+volts xs = map (λ (v : ℤ). (v, pos 0)) xs
+
+-- both samples -8,388,608
+unfoldable pub lowest : List Sample
+lowest = (negsuc 8388607, negsuc 8388607) ∷ []
+
+-- P -5 before offset: voltage 4,194,304 is a half, times -10
+unfoldable pub minusFive : List Sample
+minusFive = (pos 4194304, negsuc 9) ∷ []
+
+-- bucket 100, P 30, 4 samples, once and once more
+unfoldable pub once : Energy
+once = plusAfter (pos 30) 4 100 noEnergy
+
+unfoldable pub twice : Energy
+twice = plusAfter (pos 30) 4 100 once
+
+-- one bucket more than the count can show
+unfoldable pub beyond : Energy
+beyond = plusAfter (pos 100) 1 100 (record { count = 16777215; rest = 0 })
+
+unfoldable pub figures : List (ℤ × ℤ)
+figures =
+    (voltage (having 3 (pos 1048576) plain) (negsuc 0), negsuc 0)  -- C1
+    ∷ (voltage (having 3 (pos 4194304) plain) (pos 8388607), pos 8388607)  -- C2
+    ∷ (phased (having 5 (pos 2048) plain) (negsuc 0) (pos 0), negsuc 0)  -- C3
+    ∷ (vrms plain lowest, pos 8388607)  -- C4: VRMS, P, S, PF
+    ∷ (figure 2 plain lowest, pos 8388607)
+    ∷ (figure 3 plain lowest, pos 8388606)
+    ∷ (figure 4 plain lowest, pos 4194304)
+    ∷ (vrms plain (volts (pos 3 ∷ pos 4 ∷ [])), pos 3)  -- C5
+    ∷ (watt plain ((pos 4194304, negsuc 2) ∷ []), negsuc 0)  -- C6
+    ∷ (irms (having 6 (pos 3) plain) (currents (pos 5 ∷ [])), pos 4)  -- C7
+    ∷ (irms (having 6 (pos 6) plain) (currents (pos 5 ∷ [])), pos 0)
+    ∷ (irms (having 7 (pos 4) (having 6 (pos 3) plain)) (currents (pos 5 ∷ [])), pos 4)  -- C8
+    ∷ (irms (having 7 (pos 5) (having 6 (pos 3) plain)) (currents (pos 5 ∷ [])), pos 0)
+    ∷ (irms plain (currents (pos 0 ∷ pos 0 ∷ pos 0 ∷ pos 8 ∷ [])), pos 4)  -- C9: IRMS, crest
+    ∷ (figure 5 plain (currents (pos 0 ∷ pos 0 ∷ pos 0 ∷ pos 8 ∷ [])), pos 131072)
+    ∷ (watt plain minusFive, negsuc 4)  -- C10: before offset, and with POFFS 3 and 5
+    ∷ (watt (having 8 (pos 3) plain) minusFive, negsuc 1)
+    ∷ (watt (having 8 (pos 5) plain) minusFive, pos 0)
+    ∷ (pos (once .count), pos 1)  -- C11
+    ∷ (pos (once .rest), pos 20)
+    ∷ (pos (twice .count), pos 2)
+    ∷ (pos (twice .rest), pos 40)
+    ∷ (pos (beyond .count), pos 0)  -- C12
+    ∷ []

@@ -1,0 +1,60 @@
+-- A whole interval, worked from its card and the list of its samples alone: what one works out by hand from document 01.
+-- `proofs/Wholes.antt` shows that the sums which are kept sample by sample are these.
+use Prim.Native.Nat.{ℕ, _+_, max}
+use mathlib.Core.Bool.{Bool, true}
+use mathlib.Core.List.{List, [], _∷_}
+use lib.IntN.{ℤ, pos, natAbs, _+ℤ_, _*ℤ_}
+use lib.ListN.{length}
+use Rattle.number.specs.Sign.{squareOf}
+use Rattle.card.specs.declared.Card.{Card}
+use Rattle.interval.specs.declared.sums.Flow.{Flow}
+use Rattle.interval.specs.declared.sums.Sums.{Sums}
+use Rattle.interval.specs.declared.close.Settings.{Settings}
+use Rattle.interval.specs.declared.close.Closed.{Closed}
+use Rattle.interval.specs.Sample.{voltage, phased}
+use Rattle.interval.specs.Sums.{Sample}
+use Rattle.interval.specs.Close.{closedOf}
+
+-- the corrected voltage and the corrected current of each sample; `before` is the raw current before the first
+unfoldable pub worked : Card → ℤ → List Sample → List Sample
+worked c before [] = []
+worked c before (x ∷ xs) = (voltage c (x .0), phased c (x .1) before) ∷ worked c (x .1) xs
+
+-- a sum over samples, of sizes and of signed numbers, and the largest size
+unfoldable pub total : (Sample → ℕ) → List Sample → ℕ
+total f [] = 0
+total f (y ∷ ys) = f y + total f ys
+
+unfoldable pub balance : (Sample → ℤ) → List Sample → ℤ
+balance f [] = pos 0
+balance f (y ∷ ys) = f y +ℤ balance f ys
+
+unfoldable pub largest : (Sample → ℕ) → List Sample → ℕ
+largest f [] = 0
+largest f (y ∷ ys) = max (f y) (largest f ys)
+
+-- the sums over corrected samples: voltage squares; current squares, products, and the largest size of the current
+unfoldable pub voltageSquares : List Sample → ℕ
+voltageSquares ys = total (λ (y : Sample). squareOf (y .0)) ys
+
+unfoldable pub flowOf : List Sample → Flow
+flowOf ys = record {
+  ii = total (λ (y : Sample). squareOf (y .1)) ys;
+  vi = balance (λ (y : Sample). y .0 *ℤ y .1) ys;
+  peak = largest (λ (y : Sample). natAbs (y .1)) ys;
+}
+
+-- the raw current of the last sample
+unfoldable pub lastRaw : ℤ → List Sample → ℤ
+lastRaw before [] = before
+lastRaw before (x ∷ xs) = lastRaw (x .1) xs
+
+-- the sums of an interval's samples
+unfoldable pub sumsOf : Card → ℤ → List Sample → Sums
+sumsOf c before xs =
+    let ys = worked c before xs in
+    record { vv = voltageSquares ys; flow = flowOf ys; seen = true; raw = lastRaw before xs }
+
+-- the interval that closes with these samples
+unfoldable pub intervalOf : Bool → Settings → Card → ℤ → List Sample → Closed → Closed
+intervalOf first t c before xs old = closedOf first t c (sumsOf c before xs) (length xs) old

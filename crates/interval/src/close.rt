@@ -1,0 +1,103 @@
+// The close of an interval.
+ghost use mathlib.Core.Path.{_≡_};
+ghost use Rattle.interval.specs.Source.{vrmsOf};
+ghost use Rattle.interval.specs.Close.{sourceAfter, sevenOf, registersAfter, closedOf, noneClosed};
+use super::addresses::WordAddr;
+use super::energy::Energy;
+use super::rules;
+use super::sums::Flow;
+use super::sums::Sums;
+use super::track::Ends;
+use card::Card;
+use card::Serial;
+
+// n: samples per interval; b: the bucket; track: the words that the six slots track.
+pub struct Settings {
+    pub n: u32,
+    pub b: u64,
+    pub track: [WordAddr; 6],
+}
+
+// The results of one current source. figures: RMS, peak, active and apparent power, power factor, crest.
+pub struct Source {
+    pub figures: [i32; 6],
+    pub plus: Energy,
+    pub minus: Energy,
+}
+
+pub struct Registers {
+    pub vrms: i32,
+    pub a: Source,
+    pub ends: Ends,
+}
+
+// An interval that has closed; serial is that of the card it was worked with.
+pub struct Closed {
+    pub number: u32,
+    pub serial: Serial,
+    pub regs: Registers,
+}
+
+impl Source {
+    // The source after an interval of n samples; vv is the sum of the voltage squares.
+    pub fn after(self, c: Card, vv: u64, f: Flow, n: u32, b: u64) -> Source
+        ensures { λ r. ⌜ r ≡ sourceAfter c (vrmsOf vv n) f n b self ⌝ }
+    {
+        let p = rules::watt(c, f, n);
+        let figures = rules::figures(c, vv, f, n);
+        let plus = self.plus;
+        let minus = self.minus;
+        let up = plus.plus_after(p, n, b);
+        let down = minus.minus_after(p, n, b);
+        Source {
+            figures,
+            plus: up,
+            minus: down,
+        }
+    }
+}
+
+// The seven that can be tracked.
+fn seven_of(v: i32, f: [i32; 6]) -> [i32; 7]
+    ensures { λ r. ⌜ r ≡ sevenOf v f ⌝ }
+{
+    [v, f[0], f[1], f[2], f[3], f[4], f[5]]
+}
+
+impl Registers {
+    // The registers after an interval of n samples.
+    pub fn after(self, first: bool, t: Settings, c: Card, s: Sums, n: u32) -> Registers
+        ensures { λ r. ⌜ r ≡ registersAfter first t c s n self ⌝ }
+    {
+        let v = rules::vrms(s.vv, n) as i32;
+        let old = self.a;
+        let flow = s.flow;
+        let a = old.after(c, s.vv, flow, n, t.b);
+        let figures = a.figures;
+        let seven = seven_of(v, figures);
+        let ends = self.ends;
+        let track = t.track;
+        let e = ends.follow(first, track, seven);
+        Registers {
+            vrms: v,
+            a,
+            ends: e,
+        }
+    }
+}
+
+impl Closed {
+    // The interval that closes next, of n samples.
+    pub fn next(self, first: bool, t: Settings, c: Card, s: Sums, n: u32) -> Closed
+        ensures { λ r. ⌜ r ≡ closedOf first t c s n self ⌝ }
+    {
+        let old = self.regs;
+        let regs = old.after(first, t, c, s, n);
+        let serial = c.serial;
+        Closed {
+            number: std::num::wrapping_add_u32(self.number, 1),
+            serial,
+            regs,
+        }
+    }
+}

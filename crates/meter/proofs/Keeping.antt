@@ -1,0 +1,92 @@
+-- A stretch keeps a sound state sound.
+use Prim.Native.Nat.{ℕ, zero, suc, _+_, _*_, _-_, _/_, _%_, _^_, _≤_, _<_}
+use mathlib.Core.Path.{_≡_, refl, sym, ap, subst, _∙_}
+use mathlib.Core.Bool.{Bool, true, false, cond, not}
+use mathlib.Core.List.{List, [], _∷_, _++_}
+use native.Mathlib.Nat.{add-zero, mod-lt}
+use native.Mathlib.Omega.{arith}
+use lib.Dec.{eqb}
+use lib.ListN.{length}
+use lib.IntN.{ℤ, pos, natAbs}
+use lib.Signed.{mag, ltZ}
+use borrow.Author.Tests.{eqb-true, eqb-false}
+use Rattle.steps.specs.Gauge.{Meter, waitOver, begun}
+use Rattle.interval.proofs.Corrections.{corrected-in, mixed-in}
+use Rattle.card.specs.declared.Card.{Card}
+use Rattle.interval.specs.declared.sums.Sums.{Sums}
+use Rattle.interval.specs.Fields.{field}
+use Rattle.interval.specs.Sample.{voltage, current, phased}
+use Rattle.interval.specs.Sums.{Sample, added, addedAll, previous, emptied}
+use Rattle.meter.specs.declared.Work.{Work}
+use Rattle.meter.specs.declared.Meter.{Meter as Kept}
+use Rattle.meter.specs.Sound.{Room, Spare, Phased, Sound}
+use Rattle.meter.specs.Core.{core, seen, kept, begunOf, endOf, stretchOf, withSums, closedWork}
+use Rattle.meter.proofs.Rooms.{room-more, room-less}
+
+-- a choice, case by case
+pub cond-case : (t : Bool) {A : Type 0} (P : A → Type 0) {x y : A} → (t ≡ true → P x) → (t ≡ false → P y) → P (cond t x y)
+cond-case true P p q = p refl
+cond-case false P p q = q refl
+
+-- ---- the sums
+voltage-in : (c : Card) (x : ℤ) → mag (voltage c x) < 8388608
+unfolding voltage
+voltage-in c x = corrected-in x (field c 1) (field c 3)
+
+current-in : (c : Card) (x : ℤ) → mag (current c x) < 8388608
+unfolding current
+current-in c x = corrected-in x (field c 2) (field c 4)
+
+phased-in : (c : Card) → Phased c → (x y : ℤ) → mag (phased c x y) < 8388608
+unfolding phased
+phased-in c h x y = mixed-in (natAbs (field c 5)) (current c x) (current c y) (omega (arith, h .high)) (current-in c x) (current-in c y)
+
+one-room : (c : Card) → Phased c → (s : Sums) (x : Sample) (k : ℕ) → Room s k → Room (added c s (x .0) (x .1)) (k + 1)
+unfolding added
+one-room c h s x k r = room-more s (voltage c (x .0)) (phased c (x .1) (previous s (x .1))) (x .1) k r (voltage-in c (x .0)) (phased-in c h (x .1) (previous s (x .1)))
+
+pub all-room : (c : Card) → Phased c → (xs : List Sample) (s : Sums) (k : ℕ) → Room s k → Room (addedAll c s xs) (k + length xs)
+unfolding addedAll
+all-room c h [] s k r = room-less s k (k + 0) (omega arith) r
+all-room c h (x ∷ xs) s k r = room-less (addedAll c (added c s (x .0) (x .1)) xs) (k + 1 + length xs) (k + suc (length xs)) (omega arith) (all-room c h xs (added c s (x .0) (x .1)) (k + 1) (one-room c h s x k r))
+
+empty-room : (s : Sums) → Room (emptied s) 0
+unfolding emptied
+empty-room s = record { vv = omega arith; flow = record { ii = omega arith; vi = omega arith } }
+
+-- ---- the card that comes into force
+pub record Begun (m q : Kept) : Type 0 where
+  pub work : q .work ≡ m .work
+  pub taken : q .taken ≡ m .taken
+  pub waiting : Phased (q .waiting)
+  pub force : Phased (q .force)
+
+by-waits : (b : Bool) (m : Kept) → Sound m → Begun m (kept (cond b (waitOver core (seen m)) (seen m)))
+by-waits true m h = record { work = refl; taken = refl; waiting = h .waiting; force = h .waiting }
+by-waits false m h = record { work = refl; taken = refl; waiting = h .waiting; force = h .force }
+
+pub begun-is : (m : Kept) → Sound m → Begun m (begunOf m)
+unfolding begunOf
+begun-is m h = cond-case (eqb (m .taken) 0) (λ (q : Kept). Begun m q) (λ t. by-waits (m .waits) m h) (λ t. by-waits false m h)
+
+-- ---- the whole
+closed-sound : (q : Kept) (w : Work) → 0 < w .settings .n → w .settings .n ≤ 4096 → Phased (q .waiting) → Phased (q .force) →
+    Sound (record { waits = q .waits; waiting = q .waiting; forced = q .forced; force = q .force; taken = 0; work = closedWork (q .force) w })
+unfolding closedWork
+closed-sound q w n1 n2 f g = record { n-most = n2; taken-most = n1; room = empty-room (w .sums); waiting = f; force = g }
+
+end-sound : (q : Kept) (w : Work) (n : ℕ) → 0 < w .settings .n → w .settings .n ≤ 4096 → n ≤ w .settings .n → Room (w .sums) n → Phased (q .waiting) → Phased (q .force) → Sound (endOf n w q)
+unfolding endOf
+end-sound q w n n1 n2 l r f g =
+    cond-case (eqb n (w .settings .n)) (λ (x : Kept). Sound x)
+    (λ t. closed-sound q w n1 n2 f g)
+    (λ t. record { n-most = n2; taken-most = omega (arith, eqb-false n (w .settings .n) t); room = r; waiting = f; force = g })
+
+pub stretch-sound : (m : Kept) (xs : List Sample) → Sound m → m .taken + length xs ≤ m .work .settings .n → Sound (stretchOf m xs)
+unfolding stretchOf
+stretch-sound m xs h l =
+    let q = begunOf m in
+    let b = begun-is m h in
+    subst (λ (w : Work). Sound (endOf (m .taken + length xs) (withSums w (addedAll (q .force) (w .sums) xs)) q)) (sym (b .work))
+    (end-sound q (withSums (m .work) (addedAll (q .force) (m .work .sums) xs)) (m .taken + length xs) (omega (arith, h .taken-most)) (h .n-most) l
+    (all-room (q .force) (b .force) xs (m .work .sums) (m .taken) (h .room)) (b .waiting) (b .force))

@@ -1,0 +1,126 @@
+-- `feed` meets its contract: each turn takes the samples of one interval.
+use Prim.Native.Nat.{ℕ, _+_, _-_, _≤_, _<_}
+use native.Mathlib.Omega.{arith}
+use mathlib.Core.Path.{_≡_, refl, sym, ap, _∙_}
+use borrow.Author.Needs.{needs}
+use denote.Ref.{now}
+use lib.ListN.{length, take, drop, length-take, length-drop}
+use Rattle.meter.specs.Samples.{samplesIn}
+use Rattle.meter.specs.Sound.{Sound}
+use Rattle.meter.specs.Core.{fedOf, stretchOf}
+use Rattle.meter.proofs.Slices.{samples-long, samples-part}
+use Rattle.meter.proofs.Stretches.{fed-more, fed-end}
+use Rattle.meter.proofs.Keeping.{stretch-sound}
+use Rattle.meter.proofs.Meter.feed.Statement.{statement}
+use Rattle.meter.proofs.Meter.feed.Tie as tie
+
+abbrev Inv-loop : tie.InvT-loop
+Inv-loop v i m₀ at₀ m at = (at ≤ length v) × Sound m × (fedOf m (drop at (samplesIn v i)) ≡ fedOf m₀ (samplesIn v i))
+
+abbrev μ-loop : tie.MeasureT-loop
+μ-loop v i m₀ at₀ m at = length v - at
+
+loop-holds : tie.Need-loop-holds Inv-loop μ-loop
+loop-holds c = (omega arith, c .pre .0, refl)
+
+reach-requires : tie.Need-reach-requires Inv-loop μ-loop
+reach-requires c κs = (c .before .loop .inv .1, c .loop-test .taken)
+
+-- the stretch is not empty, is within the slice and within the interval
+record Span (c : tie.After-reach Inv-loop μ-loop) : Type 0 where
+  some : c .before .before .loop .at < c .reach .result
+  within : c .reach .result ≤ length (now (c .before .before .before .args .v))
+  fits : c .before .before .loop .m .taken + (c .reach .result - c .before .before .loop .at) ≤ c .before .before .loop .m .work .settings .n
+
+span : (c : tie.After-reach Inv-loop μ-loop) → Span c
+span c =
+    let h = c .before .before .loop .inv .1 in
+    let n = h .taken-most in
+    let t = c .before .loop-test .taken in
+    let e = c .reach .ensures in
+    record { some = omega arith; within = omega arith; fits = omega arith }
+
+mul-stretch : tie.Need-mul-stretch Inv-loop μ-loop
+mul-stretch c = search needs
+
+sub-stretch : tie.Need-sub-stretch Inv-loop μ-loop
+sub-stretch c = omega (arith, span c)
+
+part-stretch-start : tie.Need-part-stretch-start Inv-loop μ-loop
+part-stretch-start c = omega (arith, span c)
+
+part-stretch-end : tie.Need-part-stretch-end Inv-loop μ-loop
+part-stretch-end c = omega (arith, span c)
+
+mul-stretch-2 : tie.Need-mul-stretch-2 Inv-loop μ-loop
+mul-stretch-2 c = search needs
+
+sub-stretch-2 : tie.Need-sub-stretch-2 Inv-loop μ-loop
+sub-stretch-2 c = omega (arith, span (c .before))
+
+part-stretch-start-2 : tie.Need-part-stretch-start-2 Inv-loop μ-loop
+part-stretch-start-2 c = omega (arith, span (c .before))
+
+part-stretch-end-2 : tie.Need-part-stretch-end-2 Inv-loop μ-loop
+part-stretch-end-2 c = omega (arith, span (c .before), c .before .before .before .before .pre .1)
+
+stretch-requires : tie.Need-stretch-requires Inv-loop μ-loop
+stretch-requires c κs =
+    let reach = c .before .before in
+    let top = reach .before .before in
+    let s = span reach in
+    let e = top .before .pre .1 in
+    simp (length-take, length-drop) ((top .loop .inv .1, omega arith), omega arith)
+
+loop-less : tie.Need-loop-less Inv-loop μ-loop
+loop-less c = omega (arith, span (c .before .before .before))
+
+loop-again : tie.Need-loop-again Inv-loop μ-loop
+loop-again c =
+    let reach = c .before .before .before in
+    let top = reach .before .before in
+    let a = top .before .args in
+    let v = now (a .v) in
+    let i = now (a .i) in
+    let m = top .loop .m in
+    let at = top .loop .at in
+    let to = reach .reach .result in
+    let s = span reach in
+    let e = top .before .pre .1 in
+    let l = samples-long v i e in
+    let part = samples-part (to - at) at v i in
+    let is : c .stretch .result ≡ stretchOf m (take (to - at) (drop at (samplesIn v i))) = c .stretch .ensures ∙ ap (stretchOf m) part in
+    let fits : m .taken + length (take (to - at) (drop at (samplesIn v i))) ≤ m .work .settings .n = simp (length-take, length-drop) (omega arith) in (
+      omega (arith, s .within),
+      rw is (stretch-sound m (take (to - at) (drop at (samplesIn v i))) (top .loop .inv .1) fits),
+      rw is (sym (fed-more m (samplesIn v i) at to (s .some) (omega arith) (s .fits)) ∙ top .loop .inv .2),
+    )
+
+returns : tie.Need-returns Inv-loop μ-loop
+returns c =
+    let top = c .before in
+    let a = top .before .args in
+    let v = now (a .v) in
+    let i = now (a .i) in
+    sym (fed-end (top .loop .m) (samplesIn v i) (top .loop .at) (omega (arith, samples-long v i (top .before .pre .1)))) ∙ top .loop .inv .2
+
+pub feed-spec : {M : Type 1} → statement M
+feed-spec =
+    tie.close
+    (tie.spec
+    Inv-loop
+    μ-loop
+    loop-holds
+    reach-requires
+    mul-stretch
+    sub-stretch
+    part-stretch-start
+    part-stretch-end
+    mul-stretch-2
+    sub-stretch-2
+    part-stretch-start-2
+    part-stretch-end-2
+    stretch-requires
+    loop-less
+    loop-again
+    returns)

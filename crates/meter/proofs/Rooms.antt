@@ -1,0 +1,67 @@
+-- The sums of an interval have room: with one sample more they are those of one sample more, and never pass 64 bits.
+use Prim.Native.Nat.{ℕ, zero, suc, _+_, _*_, _-_, _/_, _^_, _≤_, _<_, max}
+use mathlib.Core.Path.{_≡_, refl, sym, ap, _∙_}
+use mathlib.Core.Bool.{Bool, true, false, cond}
+use native.Mathlib.Nat.{mul-le-mul}
+use native.Mathlib.Omega.{arith}
+use lib.IntN.{ℤ, pos, negsuc, natAbs, _+ℤ_, _*ℤ_}
+use lib.Signed.{mag, natAbs-le}
+use mir.Syntax.{w32, w64}
+use mir.Val.{SFits}
+use Rattle.number.proofs.Signed.{up, dn, add-is, abs-is}
+use Rattle.number.proofs.Fits.{within, Size, size-mul}
+use Rattle.number.proofs.Ranges.{size24}
+use Rattle.interval.specs.declared.sums.Flow.{Flow}
+use Rattle.interval.specs.declared.sums.Sums.{Sums}
+use Rattle.number.specs.Sign.{squareOf}
+use Rattle.interval.specs.Sums.{joined, summed}
+use Rattle.meter.specs.Sound.{Flowing, Room, Spare, Phased}
+use Rattle.meter.specs.Samples.{probeOf}
+use Rattle.card.specs.declared.Card.{Card}
+
+-- squares and products of numbers of the range
+pub square24 : (z : ℤ) → mag z < 8388608 → natAbs z * natAbs z ≤ 70368744177664
+square24 z h = mul-le-mul (natAbs-le z h) (natAbs-le z h)
+
+product24 : (x y : ℤ) → mag x < 8388608 → mag y < 8388608 → Size (x *ℤ y) 70368744177664
+product24 x y h k = size-mul (size24 x h) (size24 y k)
+
+-- a sum whose size is bounded by k samples has room for one more in 64 bits
+pub vi-fits : (z : ℤ) (k : ℕ) → k ≤ 4097 → natAbs z / 70368744177664 ≤ k → SFits w64 z
+vi-fits z k h l = within (omega (arith, abs-is z))
+
+pub vi-more : (z x y : ℤ) (k : ℕ) → mag x < 8388608 → mag y < 8388608 → natAbs z / 70368744177664 ≤ k → natAbs (z +ℤ x *ℤ y) / 70368744177664 ≤ k + 1
+vi-more z x y k h l p =
+    let q : Size (x *ℤ y) 70368744177664 = product24 x y h l in
+    omega (arith, abs-is z, abs-is (z +ℤ x *ℤ y), add-is z (x *ℤ y))
+
+pub square-more : (s : ℕ) (x : ℤ) (k : ℕ) → mag x < 8388608 → s / 70368744177664 ≤ k → (s + squareOf x) / 70368744177664 ≤ k + 1
+square-more s x k h p = omega (arith, square24 x h)
+
+pub flowing-more : (f : Flow) (v i : ℤ) (k : ℕ) → Flowing f k → mag v < 8388608 → mag i < 8388608 → Flowing (joined f v i) (k + 1)
+unfolding joined
+flowing-more f v i k h p q = record { ii = square-more (f .ii) i k q (h .ii); vi = vi-more (f .vi) v i k p q (h .vi) }
+
+-- the sums with one sample more
+pub room-more : (s : Sums) (v i raw : ℤ) (k : ℕ) → Room s k → mag v < 8388608 → mag i < 8388608 → Room (summed s v i raw) (k + 1)
+unfolding summed
+room-more s v i raw k h p q = record {
+  vv = square-more (s .vv) v k p (h .vv);
+  flow = flowing-more (s .flow) v i k (h .flow) p q;
+}
+
+pub room-less : (s : Sums) (j k : ℕ) → j ≤ k → Room s j → Room s k
+room-less s j k l h = record { vv = omega (arith, h .vv); flow = record { ii = omega (arith, h .flow .ii); vi = omega (arith, h .flow .vi) } }
+
+pub spare-room : (s : Sums) (k : ℕ) → Spare s k → Room s 4096
+spare-room s k h = room-less s (h .had) 4096 (omega (arith, h .few)) (h .room)
+
+pub spare-more : (s : Sums) (v i raw : ℤ) (k : ℕ) → Spare s (suc k) → mag v < 8388608 → mag i < 8388608 → Spare (summed s v i raw) k
+spare-more s v i raw k h p q = record { had = h .had + 1; few = omega (arith, h .few); room = room-more s v i raw (h .had) (h .room) p q }
+
+pub spare-at : (s : Sums) (j k : ℕ) → j ≡ k → Spare s j → Spare s k
+spare-at s j k e h = rw e at h
+
+pub phase-most : (c : Card) → Phased c → probeOf c .phase ≤ 4095
+unfolding probeOf
+phase-most c h = h .high

@@ -1,0 +1,80 @@
+-- The samples of two slices: one after another, and a part of them.
+use Prim.Native.Nat.{ℕ, zero, suc, _+_, _-_, _≤_, _<_}
+use mathlib.Core.Path.{_≡_, refl, sym, ap, ap₂, _∙_}
+use mathlib.Core.List.{List, [], _∷_, _++_}
+use native.Mathlib.Nat.{le-of-suc-le-suc, not-suc-le-zero, suc-ne-zero}
+use native.Mathlib.Numerals.{add-one}
+use native.Mathlib.Omega.{arith}
+use lib.ListN.{length, getD, take, drop, drop-of-length-le}
+use lib.IntN.{ℤ, pos}
+use Rattle.interval.specs.Sample.{corrected, mixed, voltage, current, phased}
+use Rattle.card.specs.declared.Card.{Card}
+use Rattle.interval.specs.declared.sums.Sums.{Sums}
+use Rattle.interval.specs.Sums.{Sample, summed, added, addedAll, previous}
+use Rattle.meter.specs.declared.samples.Probe.{Probe}
+use Rattle.meter.specs.Samples.{samplesIn, probeOf, probed, probedAll}
+
+pub samples-long : (vs is : List ℤ) → length vs ≡ length is → length (samplesIn vs is) ≡ length vs
+unfolding samplesIn
+samples-long [] is e = refl
+samples-long (v ∷ vs) [] e = absurd (suc-ne-zero (length vs) e)
+samples-long (v ∷ vs) (i ∷ is) e = ap suc (samples-long vs is (omega arith))
+
+pub samples-at : (vs is : List ℤ) (k : ℕ) → k < length vs → length vs ≡ length is → drop k (samplesIn vs is) ≡ (getD vs k (pos 0), getD is k (pos 0)) ∷ drop (suc k) (samplesIn vs is)
+unfolding samplesIn
+samples-at [] is k h e = absurd (not-suc-le-zero h)
+samples-at (v ∷ vs) [] k h e = absurd (suc-ne-zero (length vs) e)
+samples-at (v ∷ vs) (i ∷ is) zero h e = refl
+samples-at (v ∷ vs) (i ∷ is) (suc k) h e = samples-at vs is k (le-of-suc-le-suc h) (omega arith)
+
+-- a turn of the loop
+pub probe-more : (p : Probe) (s : Sums) (vs is : List ℤ) (k : ℕ) → k < length vs → length vs ≡ length is →
+    probedAll p s (drop k (samplesIn vs is)) ≡ probedAll p (probed p s (getD vs k (pos 0), getD is k (pos 0))) (drop (k + 1) (samplesIn vs is))
+unfolding probedAll
+probe-more p s vs is k h e = rw (samples-at vs is k h e, add-one)
+
+pub probe-end : (p : Probe) (s : Sums) (vs is : List ℤ) (k : ℕ) → length vs ≤ k → length vs ≡ length is → probedAll p s (drop k (samplesIn vs is)) ≡ s
+unfolding probedAll
+probe-end p s vs is k h e = rw (drop-of-length-le (samplesIn vs is) {i = k} (omega (arith, samples-long vs is e)))
+
+-- what the card does, taken out once
+probe-one : (c : Card) (s : Sums) (x : Sample) → probed (probeOf c) s x ≡ added c s (x .0) (x .1)
+unfolding probed probeOf added voltage current phased
+probe-one c s x = refl
+
+pub probe-is : (c : Card) (s : Sums) (xs : List Sample) → probedAll (probeOf c) s xs ≡ addedAll c s xs
+unfolding probedAll addedAll
+probe-is c s [] = refl
+probe-is c s (x ∷ xs) = ap (λ (t : Sums). probedAll (probeOf c) t xs) (probe-one c s x) ∙ probe-is c (added c s (x .0) (x .1)) xs
+
+pub previous-after : (s : Sums) (v i raw x : ℤ) → previous (summed s v i raw) x ≡ raw
+unfolding previous summed
+previous-after s v i raw x = refl
+
+pub none-added : (c : Card) (s : Sums) (vs is : List ℤ) → length vs ≡ 0 → addedAll c s (samplesIn vs is) ≡ s
+unfolding addedAll samplesIn
+none-added c s [] is e = refl
+none-added c s (v ∷ vs) is e = absurd (suc-ne-zero (length vs) e)
+
+-- a part of the samples
+samples-nil : (v : List ℤ) → samplesIn v [] ≡ []
+unfolding samplesIn
+samples-nil [] = refl
+samples-nil (x ∷ v) = refl
+
+samples-drop : (k : ℕ) (v i : List ℤ) → samplesIn (drop k v) (drop k i) ≡ drop k (samplesIn v i)
+unfolding samplesIn
+samples-drop zero v i = refl
+samples-drop (suc k) [] i = refl
+samples-drop (suc k) (x ∷ v) [] = samples-nil (drop k v)
+samples-drop (suc k) (x ∷ v) (y ∷ i) = samples-drop k v i
+
+samples-take : (k : ℕ) (v i : List ℤ) → samplesIn (take k v) (take k i) ≡ take k (samplesIn v i)
+unfolding samplesIn
+samples-take zero v i = refl
+samples-take (suc k) [] i = refl
+samples-take (suc k) (x ∷ v) [] = refl
+samples-take (suc k) (x ∷ v) (y ∷ i) = ap (λ (l : List Sample). (x, y) ∷ l) (samples-take k v i)
+
+pub samples-part : (k a : ℕ) (v i : List ℤ) → samplesIn (take k (drop a v)) (take k (drop a i)) ≡ take k (drop a (samplesIn v i))
+samples-part k a v i = samples-take k (drop a v) (drop a i) ∙ ap (take k) (samples-drop a v i)

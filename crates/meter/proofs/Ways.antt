@@ -1,0 +1,149 @@
+-- The ways through a block: which test leads to which answer, and that a state which passes the test is sound.
+use Prim.Native.Nat.{ℕ, zero, suc, _+_, _/_, _≤_, _<_, _^_}
+use mathlib.Core.Path.{_≡_, refl, sym, ap, ap₂, _∙_}
+use mathlib.Core.Bool.{Bool, true, false, cond, _&&_, _||_, true≢false}
+use mathlib.Core.List.{List, [], _∷_}
+use mathlib.Core.Option.{Option, none, some}
+use native.Mathlib.Numerals.{add-one}
+use native.Mathlib.Omega.{arith}
+use lib.Dec.{T, eqb, leb, ltb, le→leb}
+use lib.IntN.{ℤ, pos, negsuc, natAbs}
+use lib.Signed.{leZ, nonNeg}
+use lib.ListN.{length, getD, drop, drop-of-length-le}
+use lib.Seq.{drop-cons}
+use borrow.Author.Tests.{leb-true, ltb-true}
+use Rattle.steps.specs.Answers.{OrRefusal, refused, accepted}
+use Rattle.steps.specs.Gauge.{Meter, latest, feeds, samples}
+use Rattle.card.specs.declared.Card.{Card}
+use Rattle.interval.specs.declared.close.Closed.{Closed}
+use Rattle.interval.specs.Fields.{field}
+use Rattle.meter.specs.declared.Meter.{Meter as Kept}
+use Rattle.meter.specs.declared.Stepped.{Stepped}
+use Rattle.meter.specs.declared.Answer.the-variants.{Done, Refused}
+use Rattle.interval.specs.Sums.{Sample}
+use Rattle.meter.specs.Samples.{samplesIn}
+use Rattle.meter.specs.Sound.{Room, Phased, Sound}
+use Rattle.number.specs.Range.{in24}
+use Rattle.meter.specs.Core.{core, seen, kept, every24, samplesOf, fedOf}
+use Rattle.meter.specs.Blocks.{phaseInRange, soundOf, cardOf, carded, answered, blockOf}
+
+pub every-more : (a : List ℤ) (k : ℕ) → k < length a → every24 (drop k a) ≡ in24 (getD a k (pos 0)) && every24 (drop (k + 1) a)
+unfolding every24
+every-more a k h = rw (add-one, drop-cons a k (pos 0) h)
+
+pub every-end : (a : List ℤ) (k : ℕ) → length a ≤ k → every24 (drop k a) ≡ true
+unfolding every24
+every-end a k h = rw (drop-of-length-le a {i = k} h)
+
+-- ---- a state that passes the check is sound
+both-of : (s t : Bool) → s && t ≡ true → (s ≡ true) × (t ≡ true)
+both-of true t e = (refl, e)
+both-of false t e = absurd (true≢false (sym e))
+
+phase-low : (z : ℤ) → leZ (pos 0) z ≡ true → T (nonNeg z)
+phase-low (pos n) e = tt
+phase-low (negsuc n) e = absurd (true≢false (sym e))
+
+phase-high : (z : ℤ) → leZ (pos 0) z ≡ true → leZ z (pos 4095) ≡ true → natAbs z ≤ 4095
+phase-high (pos n) d e = leb-true n 4095 e
+phase-high (negsuc n) d e = absurd (true≢false (sym d))
+
+phased-of : (c : Card) → phaseInRange c ≡ true → Phased c
+unfolding phaseInRange
+phased-of c e =
+    let b = both-of (leZ (pos 0) (field c 5)) (leZ (field c 5) (pos 4095)) e in
+    record { low = phase-low (field c 5) (b .0); high = phase-high (field c 5) (b .0) (b .1) }
+
+pub sound-of : (m : Kept) → soundOf m ≡ true → Sound m
+unfolding soundOf
+sound-of m e =
+    let c6 : _ = both-of _ _ e in
+    let c5 : _ = both-of _ _ (c6 .0) in
+    let c4 : _ = both-of _ _ (c5 .0) in
+    let c3 : _ = both-of _ _ (c4 .0) in
+    let c2 : _ = both-of _ _ (c3 .0) in
+    let c1 : _ = both-of _ _ (c2 .0) in
+    record {
+      n-most = leb-true _ _ (c1 .0);
+      taken-most = ltb-true _ _ (c1 .1);
+      room = record { vv = leb-true _ _ (c2 .1); flow = record { ii = leb-true _ _ (c3 .1); vi = leb-true _ _ (c4 .1) } };
+      waiting = phased-of (m .waiting) (c5 .1);
+      force = phased-of (m .force) (c6 .1);
+    }
+
+pub carded-sound : (m : Kept) → carded m ≡ true → Sound m
+unfolding carded
+carded-sound m e = sound-of m (both-of (soundOf m) (m .waits || m .forced) e .0)
+
+-- ---- the ways through a block
+-- which card, by the flags
+by-flags : (w f : Bool) (a b : Card) → w || f ≡ true → (c : Card) × (cond w (some a) (cond f (some b) none) ≡ some c)
+by-flags true f a b e = (a, refl)
+by-flags false true a b e = (b, refl)
+by-flags false false a b e = absurd (true≢false (sym e))
+
+no-flags : (w f : Bool) (a b : Card) → w || f ≡ false → cond w (some a) (cond f (some b) none) ≡ none
+no-flags true f a b e = absurd (true≢false e)
+no-flags false true a b e = absurd (true≢false e)
+no-flags false false a b e = refl
+
+card-some : (m : Kept) → carded m ≡ true → (c : Card) × (cardOf m ≡ some c)
+unfolding carded cardOf
+card-some m e =
+    let b = both-of (soundOf m) (m .waits || m .forced) e in
+    let f = by-flags (m .waits) (m .forced) (m .waiting) (m .force) (b .1) in
+    (f .0, ap (λ (t : Bool). cond t (latest core (seen m)) none) (b .0) ∙ f .1)
+
+card-by : (s : Bool) (m : Kept) → s && (m .waits || m .forced) ≡ false → cond s (latest core (seen m)) none ≡ none
+card-by true m e = no-flags (m .waits) (m .forced) (m .waiting) (m .force) e
+card-by false m e = refl
+
+card-none : (m : Kept) → carded m ≡ false → cardOf m ≡ none
+unfolding carded cardOf
+card-none m e = card-by (soundOf m) m e
+
+module _ (m : Kept) (v i : List ℤ) where
+  unequal : eqb (length v) (length i) ≡ false → samplesOf v i ≡ refused 5
+  unfolding samplesOf
+  unequal e = rw e
+
+  too-long : eqb (length v) (length i) ≡ true → leb (length v) 4096 ≡ false → samplesOf v i ≡ refused 5
+  unfolding samplesOf
+  too-long e l = rw (e, l)
+
+  bad-v : eqb (length v) (length i) ≡ true → leb (length v) 4096 ≡ true → every24 v ≡ false → samplesOf v i ≡ refused 6
+  unfolding samplesOf
+  bad-v e l a = rw (e, l, a)
+
+  bad-i : eqb (length v) (length i) ≡ true → leb (length v) 4096 ≡ true → every24 v ≡ true → every24 i ≡ false → samplesOf v i ≡ refused 6
+  unfolding samplesOf
+  bad-i e l a b = rw (e, l, a, b)
+
+  good : eqb (length v) (length i) ≡ true → leb (length v) 4096 ≡ true → every24 v ≡ true → every24 i ≡ true → samplesOf v i ≡ accepted (samplesIn v i)
+  unfolding samplesOf
+  good e l a b = rw (e, l, a, b)
+
+  refusal : (n : ℕ) → samplesOf v i ≡ refused n → blockOf m v i ≡ record { answer = Refused n; after = m }
+  unfolding blockOf
+  refusal n e = ap (λ (r : OrRefusal (List Sample)). answered m (feeds core r (cardOf m) (seen m))) e
+
+  pub block-5 : eqb (length v) (length i) ≡ false → record { answer = Refused 5; after = m } ≡ blockOf m v i
+  block-5 e = sym (refusal 5 (unequal e))
+
+  pub block-5-long : eqb (length v) (length i) ≡ true → leb (length v) 4096 ≡ false → record { answer = Refused 5; after = m } ≡ blockOf m v i
+  block-5-long e l = sym (refusal 5 (too-long e l))
+
+  pub block-6-v : eqb (length v) (length i) ≡ true → leb (length v) 4096 ≡ true → every24 v ≡ false → record { answer = Refused 6; after = m } ≡ blockOf m v i
+  block-6-v e l a = sym (refusal 6 (bad-v e l a))
+
+  pub block-6-i : eqb (length v) (length i) ≡ true → leb (length v) 4096 ≡ true → every24 v ≡ true → every24 i ≡ false → record { answer = Refused 6; after = m } ≡ blockOf m v i
+  block-6-i e l a b = sym (refusal 6 (bad-i e l a b))
+
+  module _ (e : eqb (length v) (length i) ≡ true) (l : leb (length v) 4096 ≡ true) (a : every24 v ≡ true) (b : every24 i ≡ true) where
+    pub block-18 : carded m ≡ false → record { answer = Refused 18; after = m } ≡ blockOf m v i
+    unfolding blockOf
+    block-18 c = sym (ap₂ (λ (r : OrRefusal (List Sample)) (o : Option Card). answered m (feeds core r o (seen m))) (good e l a b) (card-none m c))
+
+    pub block-done : carded m ≡ true → record { answer = Done; after = fedOf m (samplesIn v i) } ≡ blockOf m v i
+    unfolding blockOf fedOf
+    block-done c = sym (ap₂ (λ (r : OrRefusal (List Sample)) (o : Option Card). answered m (feeds core r o (seen m))) (good e l a b) (card-some m c .1))

@@ -1,0 +1,15 @@
+-- `fresh` meets its contract.
+use Rattle.meter.specs.Starting.{freshOf}
+use borrow.Author.Needs.{needs}
+use Rattle.meter.proofs.fresh.Statement.{statement}
+use Rattle.meter.proofs.fresh.Tie as tie
+
+none-requires : tie.Need-none-requires
+none-requires c κs = search needs
+
+returns : tie.Need-returns
+unfolding freshOf
+returns c = rw (c .none .ensures)
+
+pub fresh-spec : {M : Type 1} → statement M
+fresh-spec = tie.close (tie.spec none-requires returns)

@@ -1,0 +1,30 @@
+-- The samples of a block, and what a card does to them with its values taken out once.
+use Prim.Native.Nat.{ℕ}
+use mathlib.Core.List.{List, [], _∷_}
+use lib.IntN.{ℤ}
+use Rattle.card.specs.declared.Card.{Card}
+use Rattle.interval.specs.declared.sums.Sums.{Sums}
+use Rattle.interval.specs.Fields.{voffs, ioffs, vgain, igain, phase}
+use Rattle.interval.specs.Sample.{corrected, mixed}
+use Rattle.interval.specs.Sums.{Sample, summed, previous}
+use Rattle.meter.specs.declared.samples.Probe.{Probe}
+
+-- the samples of two slices: a voltage and a current each
+unfoldable pub samplesIn : List ℤ → List ℤ → List Sample
+samplesIn [] is = []
+samplesIn (v ∷ vs) [] = []
+samplesIn (v ∷ vs) (i ∷ is) = (v, i) ∷ samplesIn vs is
+
+-- what a sample needs of its card
+unfoldable pub probeOf : Card → Probe
+probeOf c = record { voffs = voffs c; ioffs = ioffs c; vgain = vgain c; igain = igain c; phase = phase c }
+
+-- one sample more, and samples one after another: `added` and `addedAll` of the card that the probe was taken out of
+unfoldable pub probed : Probe → Sums → Sample → Sums
+probed p s x =
+    summed s (corrected (x .0) (p .voffs) (p .vgain))
+    (mixed (p .phase) (corrected (x .1) (p .ioffs) (p .igain)) (corrected (previous s (x .1)) (p .ioffs) (p .igain))) (x .1)
+
+unfoldable pub probedAll : Probe → Sums → List Sample → Sums
+probedAll p s [] = s
+probedAll p s (x ∷ xs) = probedAll p (probed p s x) xs

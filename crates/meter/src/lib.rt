@@ -1,0 +1,299 @@
+// Samples into intervals: the start, the card that comes into force, and a block.
+ghost use mathlib.Core.Path.{_≡_};
+ghost use Prim.Native.Nat.{_+_, _-_, _≤_, _<_, min};
+ghost use lib.ListN.{length};
+ghost use Rattle.meter.specs.Samples.{samplesIn};
+ghost use Rattle.meter.specs.Sound.{Sound};
+ghost use Rattle.meter.specs.Core.{withSums, closedWork, begunOf, endOf, stretchOf, fedOf};
+ghost use Rattle.meter.specs.Blocks.{soundOf, carded, blockOf};
+ghost use Rattle.meter.specs.Starting.{freshOf, startOf, notStarted};
+
+mod checks;
+mod samples;
+
+use card::Card;
+use card::Serial;
+use interval::addresses::WordAddr;
+use interval::close::Closed;
+use interval::close::Registers;
+use interval::close::Settings;
+use interval::close::Source;
+use interval::energy::Energy;
+use interval::sums::Sums;
+use interval::track::Ends;
+
+// What outlives an interval, with the sums of the one that runs. some: whether any interval has closed; last: the one that closed last.
+pub struct Work {
+    pub settings: Settings,
+    pub sums: Sums,
+    pub some: bool,
+    pub last: Closed,
+}
+
+// waiting counts only while `waits`, force only once `forced`. taken: samples of the running interval.
+pub struct Meter {
+    pub waits: bool,
+    pub waiting: Card,
+    pub forced: bool,
+    pub force: Card,
+    pub taken: u32,
+    pub work: Work,
+}
+
+pub enum Answer {
+    Done,
+    Refused(u8),
+}
+
+pub struct Stepped {
+    pub answer: Answer,
+    pub after: Meter,
+}
+
+impl Work {
+    fn with_sums(self, s: Sums) -> Work
+        ensures { λ r. ⌜ r ≡ withSums self s ⌝ }
+    {
+        let settings = self.settings;
+        let last = self.last;
+        Work {
+            settings,
+            sums: s,
+            some: self.some,
+            last,
+        }
+    }
+
+    // The interval closes, worked with one card.
+    pub fn closed(self, c: Card) -> Work
+        ensures { λ r. ⌜ r ≡ closedWork c self ⌝ }
+    {
+        let settings = self.settings;
+        let sums = self.sums;
+        let old = self.last;
+        let last = old.next(!self.some, settings, c, sums, settings.n);
+        let none = sums.emptied();
+        Work {
+            settings,
+            sums: none,
+            some: true,
+            last,
+        }
+    }
+}
+
+impl Meter {
+    // At an interval's first sample a card that waits comes into force.
+    pub fn begun(self) -> Meter
+        ensures { λ r. ⌜ r ≡ begunOf self ⌝ }
+    {
+        if self.taken == 0 {
+            if self.waits {
+                let c = self.waiting;
+                let w = self.work;
+                return Meter {
+                    waits: false,
+                    waiting: c,
+                    forced: true,
+                    force: c,
+                    taken: self.taken,
+                    work: w,
+                };
+            }
+            return self;
+        }
+        self
+    }
+
+    // The running interval has n samples, with the sums of w; the last of N closes it.
+    pub fn ended(mut self, n: u32, w: Work) -> Meter
+        ensures { λ r. ⌜ r ≡ endOf n w self ⌝ }
+    {
+        let t = w.settings;
+        if n == t.n {
+            let c = self.force;
+            let u = w.closed(c);
+            self.taken = 0;
+            self.work = u;
+            return self;
+        }
+        self.taken = n;
+        self.work = w;
+        self
+    }
+
+    // Samples of one interval.
+    fn stretch(self, v: &[i32], i: &[i32]) -> Meter
+        requires { ⌜ Sound self × (length (now v) ≡ length (now i)) ⌝ }
+        requires { ⌜ self .taken + length (now v) ≤ self .work .settings .n ⌝ }
+        ensures { λ r. ⌜ r ≡ stretchOf self (samplesIn (now (v .entry)) (now (i .entry))) ⌝ }
+    {
+        let m = self.begun();
+        let c = m.force;
+        let w = m.work;
+        let s = samples::run(w.sums, c, v, i);
+        let u = w.with_sums(s);
+        m.ended(self.taken + v.len() as u32, u)
+    }
+
+    // How far the running interval reaches, from `at` and at most to `end`.
+    fn reach(self, at: usize, end: usize) -> usize
+        requires { ⌜ Sound self × (at < end) ⌝ }
+        ensures { λ r. ⌜ r ≡ min end (at + (self .work .settings .n - self .taken)) ⌝ }
+    {
+        let w = self.work;
+        let t = w.settings;
+        let room = (t.n - self.taken) as usize;
+        if end - at < room { end } else { at + room }
+    }
+
+    // The samples of two slices, interval by interval.
+    fn feed(self, v: &[i32], i: &[i32]) -> Meter
+        requires { ⌜ Sound self × (length (now v) ≡ length (now i)) ⌝ }
+        ensures { λ r. ⌜ r ≡ fedOf self (samplesIn (now (v .entry)) (now (i .entry))) ⌝ }
+    {
+        let mut m = self;
+        let mut at: usize = 0;
+        while at < v.len() {
+            let to = m.reach(at, v.len());
+            m = m.stretch(&v[at..to], &i[at..to]);
+            at = to;
+        }
+        m
+    }
+
+    // Whether the state is one that steps can have made: then no sum of the running interval can overflow.
+    pub fn sound(self) -> bool
+        ensures { λ r. ⌜ r ≡ soundOf self ⌝ }
+    {
+        let w = self.work;
+        let t = w.settings;
+        let s = w.sums;
+        let f = s.flow;
+        let k = self.taken;
+        let n = k as u64;
+        let z = number::size(f.vi);
+        let a = checks::phase_in_range(self.waiting);
+        let b = checks::phase_in_range(self.force);
+        (t.n <= 4096)
+            & (k < t.n)
+            & (s.vv / 70368744177664 <= n)
+            & (f.ii / 70368744177664 <= n)
+            & (z / 70368744177664 <= n)
+            & a
+            & b
+    }
+
+    // Whether a card is in force or waits.
+    pub fn has_card(self) -> bool
+        ensures { λ r. ⌜ r ≡ carded self ⌝ }
+    {
+        if self.sound() {
+            return self.waits | self.forced;
+        }
+        false
+    }
+
+    // A block of samples: 5, 6, 18.
+    pub fn block(self, v: &[i32], i: &[i32]) -> Stepped
+        ensures { λ r. ⌜ r ≡ blockOf self (now (v .entry)) (now (i .entry)) ⌝ }
+    {
+        let n = v.len();
+        if n == i.len() {
+            if n <= 4096 {
+                if checks::all_in_range(v) {
+                    if checks::all_in_range(i) {
+                        if self.has_card() {
+                            let m = self.feed(v, i);
+                            return Stepped {
+                                answer: Answer::Done,
+                                after: m,
+                            };
+                        }
+                        return Stepped {
+                            answer: Answer::Refused(18),
+                            after: self,
+                        };
+                    }
+                }
+                return Stepped {
+                    answer: Answer::Refused(6),
+                    after: self,
+                };
+            }
+        }
+        Stepped {
+            answer: Answer::Refused(5),
+            after: self,
+        }
+    }
+}
+
+// No card, no interval, counts and remainders 0.
+pub fn fresh(n: u32, b: u64, track: [WordAddr; 6]) -> Meter
+    ensures { λ r. ⌜ r ≡ freshOf n b track ⌝ }
+{
+    let s = Serial {
+        len: 0,
+        digits: [0; 12],
+    };
+    let c = Card {
+        serial: s,
+        fields: [0; 8],
+    };
+    Meter {
+        waits: false,
+        waiting: c,
+        forced: false,
+        force: c,
+        taken: 0,
+        work: Work {
+            settings: Settings { n, b, track },
+            sums: Sums::none(),
+            some: false,
+            last: Closed {
+                number: 0,
+                serial: s,
+                regs: Registers {
+                    vrms: 0,
+                    a: Source {
+                        figures: [0; 6],
+                        plus: Energy { count: 0, rest: 0 },
+                        minus: Energy { count: 0, rest: 0 },
+                    },
+                    ends: Ends {
+                        low: [0; 6],
+                        high: [0; 6],
+                    },
+                },
+            },
+        },
+    }
+}
+
+fn not_started() -> Stepped
+    ensures { λ r. ⌜ r ≡ notStarted ⌝ }
+{
+    let m = fresh(1, 1, [WordAddr(0); 6]);
+    Stepped {
+        answer: Answer::Refused(7),
+        after: m,
+    }
+}
+
+// A start with N, B and the six words to track: 7.
+pub fn start(n: i64, b: i64, track: [WordAddr; 6]) -> Stepped
+    ensures { λ r. ⌜ r ≡ startOf n b track ⌝ }
+{
+    if (1 <= n) & (n <= 4096) & (1 <= b) & (b <= 281474976710655) {
+        if checks::all_slots(track) {
+            let m = fresh(n as u32, b as u64, track);
+            return Stepped {
+                answer: Answer::Done,
+                after: m,
+            };
+        }
+        return not_started();
+    }
+    not_started()
+}

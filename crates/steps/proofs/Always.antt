@@ -1,0 +1,58 @@
+-- What committed cards and accepted blocks keep holds at the end of every sequence of steps.
+use mathlib.Core.Path.{_≡_, refl, sym, subst}
+use mathlib.Core.List.{List, [], _∷_, _++_, append-nil, append-assoc}
+use mathlib.Core.Option.{none, some}
+use Rattle.steps.specs.Answers.{OrRefusal, refused, accepted, andThen}
+use Rattle.steps.specs.Port.{on}
+use Rattle.steps.specs.Parts.{Parts}
+use Rattle.steps.specs.Module.{edit, commit, dropCard, hold, read, Step, atPort, block, State, Report, silent, commits, tells, closes, didEdit, didCommit, didDrop, didHold, didRead, didBlock, Done}
+use Rattle.steps.specs.Run.{Run, withReport, follow, run}
+use Rattle.steps.specs.Always.{Lasting, Always}
+
+module _ (P : Parts) (L : Lasting P) where
+  open Lasting L using (Of, on-wait, on-feed)
+
+  abbrev Keeps : (State P → Run P) → Type 0
+  Keeps rest = (s : State P) (h : List (P .Closed)) → Of (s .meter) h → Of (rest s .end .meter) (h ++ rest s .closed)
+
+  -- what an accepted step closes
+  abbrev closedBy : Report P → List (P .Closed)
+  closedBy silent = []
+  closedBy (commits c) = []
+  closedBy (tells p op v) = []
+  closedBy (closes b c) = c
+
+  module _ (rest : State P → Run P) (ih : Keeps rest) (s : State P) (h : List (P .Closed)) (i : Of (s .meter) h) where
+    report-keeps : (x : Report P) (t : State P) → Of (t .meter) (h ++ closedBy x) → Of (withReport P x (rest t) .end .meter) (h ++ withReport P x (rest t) .closed)
+    report-keeps silent t j = ih t h (subst (Of (t .meter)) (append-nil h) j)
+    report-keeps (commits c) t j = ih t h (subst (Of (t .meter)) (append-nil h) j)
+    report-keeps (tells p op v) t j = ih t h (subst (Of (t .meter)) (append-nil h) j)
+    report-keeps (closes b c) t j = subst (Of (rest t .end .meter)) (append-assoc h c (rest t .closed)) (ih t (h ++ c) j)
+
+    step-keeps : {A : Type 0} (q : OrRefusal A) (f : A → Done P) → ((a : A) → q ≡ accepted a → Of (f a .1 .meter) (h ++ closedBy (f a .0))) →
+        Of (follow P (andThen q f) s rest .end .meter) (h ++ follow P (andThen q f) s rest .closed)
+    step-keeps (refused n) f j = ih s h i
+    step-keeps (accepted a) f j = report-keeps (f a .0) (f a .1) (j a refl)
+
+  none-closed : (m : P .Meter) (h : List (P .Closed)) → Of m h → Of m (h ++ [])
+  none-closed m h i = subst (Of m) (sym (append-nil h)) i
+
+  keeps : (xs : List (Step P)) → Keeps (run P xs)
+  keeps [] s h i = none-closed (s .meter) h i
+  keeps (atPort none op ∷ r) s h i = keeps r s h i
+  keeps (atPort (some p) (edit e) ∷ r) s h i =
+      step-keeps (run P r) (keeps r) s h i (P .edited (on (s .desks) p) e) (didEdit P p s) (λ d q. none-closed (s .meter) h i)
+  keeps (atPort (some p) commit ∷ r) s h i =
+      step-keeps (run P r) (keeps r) s h i (P .finished (on (s .desks) p)) (didCommit P p s)
+      (λ c q. none-closed (P .wait c (s .meter)) h (on-wait c (s .meter) h i))
+  keeps (atPort (some p) dropCard ∷ r) s h i =
+      step-keeps (run P r) (keeps r) s h i (P .discarded (on (s .desks) p)) (didDrop P p s) (λ u q. none-closed (s .meter) h i)
+  keeps (atPort (some p) (hold k) ∷ r) s h i =
+      step-keeps (run P r) (keeps r) s h i (P .copy k (s .meter)) (didHold P p k s) (λ v q. none-closed (s .meter) h i)
+  keeps (atPort (some p) (read a) ∷ r) s h i =
+      step-keeps (run P r) (keeps r) s h i (P .look (on (s .holds) p) a) (didRead P p a s) (λ v q. none-closed (s .meter) h i)
+  keeps (block b ∷ r) s h i =
+      step-keeps (run P r) (keeps r) s h i (P .feed (s .meter) b) (didBlock P b s) (λ w q. on-feed (s .meter) h b w q i)
+
+  pub always : (s : State P) (xs : List (Step P)) → Always P L s xs
+  always s xs i = keeps xs s [] i

@@ -1,0 +1,18 @@
+-- Steps, runs and demand 3, in reading order.
+pub mod Answers
+pub mod Port
+pub mod Parts
+pub mod Module
+pub mod Run
+pub mod Shorter
+pub mod Demand3
+pub mod Tidy
+pub mod History
+pub mod Gauge
+pub mod OneCard
+pub mod Promise
+pub mod Always
+pub mod Work
+pub mod Calls
+pub mod Site
+pub mod Day

@@ -1,0 +1,105 @@
+/* close.c: what an interval comes to when it closes: registers, energy, minima and maxima, its number. */
+#include <string.h>
+
+#include "module.h"
+#include "numbers.h"
+
+enum { WHOLE_COUNT = 16777216, UNITY_FACTOR = 4194304 };
+
+static int64_t voltage_rms(const struct module *module)
+{
+    return at_most(root_down(module->interval.voltage_squares / module->samples), HIGHEST);
+}
+
+static int64_t current_rms(const struct module *module)
+{
+    const int64_t *field = module->card.field;
+    int64_t square = module->interval.current_squares / module->samples - field[IRMSOFFS] * field[IRMSOFFS];
+    int64_t root = at_most(root_down(square < 0 ? 0 : square), HIGHEST);
+
+    return root < field[SQUELCH] ? 0 : root;
+}
+
+/* C divides toward zero. N times 2^23 is at most 2^35. */
+static int64_t active_power(const struct module *module)
+{
+    int64_t power = clipped(module->interval.products / (module->samples * 8388608));
+    int64_t size = size_of(power) - module->card.field[POFFS];
+
+    if (size <= 0)
+        return 0;
+    return power < 0 ? -size : size;
+}
+
+/* |P| times 2^22 is at most 2^45. */
+static int64_t power_factor(int64_t active, int64_t apparent)
+{
+    int64_t factor;
+
+    if (apparent == 0)
+        return 0;
+    factor = active * UNITY_FACTOR / apparent;
+    return factor < -UNITY_FACTOR ? -UNITY_FACTOR : at_most(factor, UNITY_FACTOR);
+}
+
+static int64_t crest(int64_t peak, int64_t rms)
+{
+    return rms == 0 ? 0 : at_most(peak * 65536 / rms, HIGHEST);
+}
+
+/* `joining` is at most 2^35 and the remainder below 2^48. */
+static void energy_advance(struct energy *energy, int64_t joining, int64_t bucket)
+{
+    int64_t total = energy->remainder + joining;
+
+    energy->count = (energy->count + total / bucket) % WHOLE_COUNT;
+    energy->remainder = total % bucket;
+}
+
+static void count_energy(struct module *module, int64_t power)
+{
+    struct energy *energy = power < 0 ? &module->negative : &module->positive;
+
+    if (power != 0)
+        energy_advance(energy, size_of(power) * module->samples, module->bucket);
+}
+
+static void work_registers(struct module *module, int64_t plain[PLAIN])
+{
+    plain[VA_RMS] = voltage_rms(module);
+    plain[IA_RMS] = current_rms(module);
+    plain[IA_PEAK] = at_most(module->interval.peak, HIGHEST);
+    plain[WATT_A] = active_power(module);
+    plain[VA_A] = plain[VA_RMS] * plain[IA_RMS] / 8388608;
+    plain[PFA] = power_factor(plain[WATT_A], plain[VA_A]);
+    plain[IA_CREST] = crest(plain[IA_PEAK], plain[IA_RMS]);
+    count_energy(module, plain[WATT_A]);
+    plain[PA_POS_CNT] = module->positive.count;
+    plain[PA_NEG_CNT] = module->negative.count;
+}
+
+/* Minima and maxima start at the first closed interval's value and then follow. */
+static void track(struct registers *registers, const int slot[SLOTS], bool first)
+{
+    for (size_t k = 0; k < SLOTS; k++) {
+        int64_t value;
+
+        if (slot[k] == OFF)
+            continue;
+        value = registers->plain[slot[k]];
+        if (first || value < registers->low[k])
+            registers->low[k] = value;
+        if (first || value > registers->high[k])
+            registers->high[k] = value;
+    }
+}
+
+void interval_close(struct module *module)
+{
+    work_registers(module, module->closed.registers.plain);
+    track(&module->closed.registers, module->slot, !module->some_closed);
+    module->closed.serial = module->card.serial;
+    module->closed.number++; /* unsigned 32 bits: after 4,294,967,295 comes 0 */
+    module->some_closed = true;
+    memset(&module->interval, 0, sizeof module->interval);
+}

@@ -1,0 +1,25 @@
+/* line.h: a line of the console, taken apart into one step. CONSOLE.md has the grammar. */
+#ifndef LINE_H
+#define LINE_H
+
+#include <stdbool.h>
+#include <stddef.h>
+#include <stdint.h>
+
+enum { LINE_MOST = 131071, SIDE_MOST = 8192, NUMBERS_MOST = 8 };
+
+enum kind { START, OPEN, WRITE, COMMIT, DROP, HOLD, READ, BLOCK };
+
+struct step {
+    enum kind kind;
+    int64_t number[NUMBERS_MOST]; /* in the line's order */
+    const unsigned char *text;    /* of an open: within the line */
+    size_t text_length;
+    int32_t voltage[SIDE_MOST], current[SIDE_MOST];
+    size_t voltages, currents;
+};
+
+/* False when the line is no step: the answer is then UNREAD. */
+bool line_parse(struct step *step, const unsigned char *line, size_t length);
+
+#endif

@@ -1,0 +1,119 @@
+/* module.c: start and the steps at the ports, each with its checks in the order of document 01. */
+#include "module.h"
+
+#include <string.h>
+
+static void become_fresh(struct module *module)
+{
+    memset(module, 0, sizeof *module);
+    module->samples = 1;
+    module->bucket = 1;
+    for (size_t k = 0; k < SLOTS; k++)
+        module->slot[k] = OFF;
+}
+
+int module_start(struct module *module, int64_t samples, int64_t bucket, const int64_t words[SLOTS])
+{
+    become_fresh(module);
+    if (samples < 1 || samples > 4096 || bucket < 1 || bucket > (INT64_C(1) << 48) - 1)
+        return 7;
+    for (size_t k = 0; k < SLOTS; k++)
+        if (slot_from_word(words[k]) == NO_SUCH)
+            return 7;
+    module->samples = samples;
+    module->bucket = bucket;
+    for (size_t k = 0; k < SLOTS; k++)
+        module->slot[k] = slot_from_word(words[k]);
+    return 0;
+}
+
+static bool is_port(int64_t port)
+{
+    return port == 0 || port == 1;
+}
+
+int module_open(struct module *module, int64_t port, const unsigned char *text, size_t length)
+{
+    struct serial serial;
+    struct port *at;
+
+    if (!is_port(port))
+        return 8;
+    at = &module->port[port];
+    if (at->open)
+        return 9;
+    if (!serial_from(&serial, text, length))
+        return 1;
+    at->open = true;
+    at->card.serial = serial;
+    memset(at->written, 0, sizeof at->written);
+    return 0;
+}
+
+int module_write(struct module *module, int64_t port, int64_t field, int64_t value)
+{
+    struct port *at;
+
+    if (!is_port(port))
+        return 8;
+    at = &module->port[port];
+    if (!at->open)
+        return 10;
+    if (field < 1 || field > FIELDS)
+        return 11;
+    if (!field_allows((size_t)field - 1, value))
+        return 12;
+    at->card.field[field - 1] = value;
+    at->written[field - 1] = true;
+    return 0;
+}
+
+int module_commit(struct module *module, int64_t port)
+{
+    struct port *at;
+
+    if (!is_port(port))
+        return 8;
+    at = &module->port[port];
+    if (!at->open)
+        return 10;
+    for (size_t k = 0; k < FIELDS; k++)
+        if (!at->written[k])
+            return 13;
+    module->waiting = at->card;
+    module->card_waits = true;
+    at->open = false;
+    return 0;
+}
+
+int module_drop(struct module *module, int64_t port)
+{
+    if (!is_port(port))
+        return 8;
+    if (!module->port[port].open)
+        return 10;
+    module->port[port].open = false;
+    return 0;
+}
+
+int module_hold(struct module *module, int64_t port, uint32_t *number, struct serial *serial)
+{
+    if (!is_port(port))
+        return 8;
+    if (!module->some_closed)
+        return 14;
+    module->port[port].hold = module->closed;
+    module->port[port].held = true;
+    *number = module->closed.number;
+    *serial = module->closed.serial;
+    return 0;
+}
+
+int module_read(const struct module *module, int64_t port, int64_t byte_address, int64_t *value)
+{
+    if (!is_port(port))
+        return 8;
+    if (!module->port[port].held)
+        return 15;
+    return register_read(&module->port[port].hold.registers, module->slot, byte_address, value);
+}

@@ -1,0 +1,70 @@
+/* module.h: the module: its settings, its cards, the running interval, the last closed one and both ports. */
+#ifndef MODULE_H
+#define MODULE_H
+
+#include <stdbool.h>
+#include <stddef.h>
+#include <stdint.h>
+
+#include "card.h"
+#include "registers.h"
+
+enum { PORTS = 2, BLOCK_MOST = 4096 };
+
+/* The running interval. Each sum is over at most 4,096 products of sizes up to 2^23: at most 2^58. */
+struct interval {
+    int64_t samples;
+    int64_t voltage_squares, current_squares, products;
+    int64_t peak;
+};
+
+/* One direction's energy. The remainder is below the bucket, so below 2^48. */
+struct energy {
+    int64_t count, remainder;
+};
+
+/* What stood when an interval closed. */
+struct reading {
+    uint32_t number;
+    struct serial serial;
+    struct registers registers;
+};
+
+/* A port: the card being written there, and what is held there. */
+struct port {
+    bool open, held;
+    struct card card;
+    bool written[FIELDS];
+    struct reading hold;
+};
+
+struct module {
+    int64_t samples, bucket; /* N and B */
+    int slot[SLOTS];
+    bool has_card, card_waits;
+    struct card card, waiting;
+    bool has_previous;
+    int64_t previous; /* the last raw current */
+    struct interval interval;
+    bool some_closed;
+    struct reading closed; /* the last closed interval; its number is 0 before the first */
+    struct energy positive, negative;
+    struct port port[PORTS];
+};
+
+/* Each step answers 0 or the number of its refusal; a refused one changes nothing, except that
+   a refused start leaves a module with N 1, B 1 and every slot off. */
+int module_start(struct module *module, int64_t samples, int64_t bucket, const int64_t words[SLOTS]);
+int module_open(struct module *module, int64_t port, const unsigned char *text, size_t length);
+int module_write(struct module *module, int64_t port, int64_t field, int64_t value);
+int module_commit(struct module *module, int64_t port);
+int module_drop(struct module *module, int64_t port);
+int module_hold(struct module *module, int64_t port, uint32_t *number, struct serial *serial);
+int module_read(const struct module *module, int64_t port, int64_t byte_address, int64_t *value);
+int module_block(struct module *module, const int32_t *voltage, size_t voltages, const int32_t *current,
+                 size_t currents);
+
+/* Closes the running interval, which has its N samples. */
+void interval_close(struct module *module);
+
+#endif

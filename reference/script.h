@@ -1,0 +1,54 @@
+/* script.h: what the parts of the script generator share. */
+#ifndef SCRIPT_H
+#define SCRIPT_H
+
+#include <stdbool.h>
+#include <stddef.h>
+#include <stdint.h>
+
+/* What kind of figures the script is about, from one start to the next. */
+enum manner {
+    SMALL, /* large voltages and currents of a few units: every offset and SQUELCH can be met exactly */
+    FULL,  /* anything within 24 bits */
+    EDGE,  /* mostly the ends of the ranges */
+    WAVE,  /* two waves, one behind the other */
+    MANNERS
+};
+
+/* What the generator believes of the module, to make steps that are mostly accepted. It need not be right. */
+struct belief {
+    enum manner manner;
+    int64_t samples; /* N */
+    int64_t taken;   /* of the running interval */
+    int64_t budget;  /* samples that the script may still spend */
+    bool card, waits, closed;
+    struct {
+        bool open, held;
+        unsigned written; /* a bit a field */
+    } port[2];
+};
+
+/* Values (script-values.c). Numbers are written with a space before them, in any form that stands for them. */
+void put_number(int64_t value);
+void put_port(int port);
+int64_t good_field(enum manner manner, int field);
+int64_t bad_field_value(int field);
+int64_t bad_number(int64_t near);
+int64_t good_samples(void);
+int64_t good_bucket(void);
+int64_t good_word(void);
+int64_t bad_word(void);
+int64_t register_address(int which); /* 0 to 20 */
+int64_t bad_address(void);
+void put_serial(void);
+void put_bad_serial(void);
+
+/* Blocks (script-blocks.c). */
+void put_block(struct belief *belief);
+
+/* Lines that are no step, or hardly one (script-oddities.c). */
+void put_oddity(void);
+void put_silence(void);
+void put_long_line(void);
+
+#endif
