@@ -26,7 +26,7 @@ use Rattle.aberzhan.specs.Sound.{SoundModule}
 use Rattle.aberzhan.specs.Calls.{Call, stepOf, callOf, Log, program}
 use Rattle.aberzhan.specs.Demand3.{runOf, shorterCalls, ProgramDemand3, ModuleDemand3}
 use Rattle.aberzhan.proofs.Soundness.{sounds, shut-phased, from-start}
-use Rattle.aberzhan.proofs.Agreement.{code}
+use Rattle.aberzhan.proofs.Agreement.{code, eighteen}
 use Rattle.aberzhan.proofs.Program.{logOf, program-is, calls-are}
 
 -- a fresh module's state
@@ -78,6 +78,7 @@ module _ (z : Module) (start : seen z ≡ fresh aberzhan (new core noCard (z .me
     heard = ap (λ (l : Log). l .heard) (program-is ks z) ∙ did .heard;
     end = end-is;
     sound = sound-end;
+    eighteen = λ v i xs. eighteen (program ks z .end) v i xs (sound-end .meter);
     none-refused = ap (λ (l : Log). l .refusals) short-is ∙ both .none-refused;
     same-values = λ p. ap (λ (l : Log). on (l .heard) p) short-is ∙ both .same-values p ∙ ap (λ (l : Log). on (l .heard) p) (sym (program-is ks z));
     same-struct =
