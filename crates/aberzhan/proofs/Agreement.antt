@@ -1,8 +1,7 @@
 -- What the methods' contracts say agrees with the steps: a block too, for a sound module; so the code's calls are the steps.
-use Prim.Native.Nat.{ℕ}
 use mathlib.Core.Path.{_≡_, refl, sym, ap, _∙_}
 use mathlib.Core.Bool.{Bool, true, false, cond, _||_}
-use mathlib.Core.List.{List}
+use mathlib.Core.List.{List, []}
 use mathlib.Core.Option.{Option, none, some}
 use lib.Dec.{ltb}
 use lib.IntN.{ℤ, pos}
@@ -11,18 +10,18 @@ use Rattle.steps.specs.Answers.{OrRefusal, refused, accepted, andThen}
 use Rattle.steps.specs.Port.{Port, port0, port1, on}
 use Rattle.steps.specs.Module.{edit, commit, dropCard, hold, read, Step, atPort, block, Done as Did, didEdit, didCommit, didDrop, didHold, didRead, didBlock, Outcome, step}
 use Rattle.steps.specs.Gauge.{Meter, latest, feeds}
-use Rattle.steps.specs.Calls.{Reply, reply, replyTo, after, SoundState, Code}
+use Rattle.steps.specs.Calls.{reply, replyTo, after, Code}
 use Rattle.card.specs.declared.Card.{Card}
 use Rattle.interval.specs.declared.addresses.ByteAddr.{ByteAddr}
 use Rattle.interval.specs.declared.close.Closed.{Closed}
 use Rattle.interval.specs.Addresses.{registerOf}
 use Rattle.interval.specs.Sums.{Sample}
 use Rattle.meter.specs.Sound.{Sound as SoundMeter}
-use Rattle.meter.specs.Core.{core, samplesOf, seen as seenMeter}
-use Rattle.meter.specs.Blocks.{answered}
+use Rattle.meter.specs.Samples.{samplesIn}
+use Rattle.meter.specs.Core.{core, every24, samplesOf, seen as seenMeter}
+use Rattle.meter.specs.Blocks.{cardOf, answered, blockOf as meterBlock}
 use Rattle.meter.specs.declared.Stepped.{Stepped as Metered}
 use Rattle.meter.proofs.Agreement.{block-feeds}
-use Rattle.aberzhan.specs.declared.answers.Answer.{Answer}
 use Rattle.aberzhan.specs.declared.answers.Answer.the-variants.{Done, Refused}
 use Rattle.aberzhan.specs.declared.holds.Held.{Held}
 use Rattle.aberzhan.specs.declared.Module.{Module}
@@ -31,7 +30,7 @@ use Rattle.aberzhan.specs.Desks.{Edit, openWith, writeField}
 use Rattle.aberzhan.specs.Holds.{register, copied}
 use Rattle.aberzhan.specs.Reading.{registers, slotOff, look}
 use Rattle.aberzhan.specs.Ports.{aberzhan, portAt}
-use Rattle.aberzhan.specs.Answers.{looked, measured}
+use Rattle.aberzhan.specs.Answers.{measured}
 use Rattle.aberzhan.specs.Module.{seen, answerOf, stepped, holding, meterPut, openOf, writeOf, commitOf, dropOf, holdOf, readOf, blockOf}
 use Rattle.aberzhan.specs.Sound.{Eighteen}
 use Rattle.aberzhan.specs.Calls.{Call, callOpen, callWrite, callCommit, callDrop, callHold, callRead, callBlock, stepOf, numberOf, callOf, replyOf, heldReply, fromStep, fromHold, returned}
@@ -64,6 +63,16 @@ eighteen m v i xs h e =
     ap (λ (s : Stepped). s .answer) (block-steps m v i h)
     ∙ ap (λ (q : OrRefusal (List Sample)). stepped m (andThen (feeds core q (latest core (seenMeter (m .meter))) (seenMeter (m .meter))) (didBlock aberzhan (v, i) (seen m))) .answer) e
     ∙ eighteen-by m (v, i) xs (m .meter .waits) (m .meter .forced) (m .meter .waiting) (m .meter .force)
+
+-- an empty block, if accepted, changes nothing
+empty-by : (m : Module) (o : Option Card) → meterPut m (answered (m .meter) (feeds core (accepted []) o (seenMeter (m .meter))) .after) ≡ m
+unfolding meterPut
+empty-by m none = refl
+empty-by m (some c) = refl
+
+pub empty-block : (m : Module) → blockOf m [] [] .after ≡ m
+unfolding blockOf meterBlock samplesOf every24 samplesIn
+empty-block m = empty-by m (cardOf (m .meter))
 
 -- ---- what a caller learns, and the struct afterwards
 step-after : (m : Module) (o : Outcome aberzhan) → seen (stepped m o .after) ≡ after aberzhan o (seen m)

@@ -3,9 +3,8 @@ use Prim.Native.Nat.{ℕ, _≤_}
 use mathlib.Core.Path.{_≡_, refl, sym, ap, subst, _∙_}
 use mathlib.Core.List.{List, map}
 use mathlib.Core.Option.{none}
-use lib.IntN.{ℤ}
-use Rattle.steps.specs.Port.{Port, port0, port1, PerPort, on}
-use Rattle.steps.specs.Module.{Op, Step, State, fresh}
+use Rattle.steps.specs.Port.{Port, port0, port1, on}
+use Rattle.steps.specs.Module.{Step, State, fresh}
 use Rattle.steps.specs.Run.{run}
 use Rattle.steps.specs.Shorter.{stepsOf, shorter}
 use Rattle.steps.specs.Gauge.{Meter, new}
@@ -14,19 +13,17 @@ use Rattle.steps.specs.Calls.{SoundState, CallsRun, CallsDemand3, calls}
 use Rattle.steps.proofs.Calls.{calls-run, calls-demand3, calls-same-struct, always-sound}
 use Rattle.steps.proofs.Promise.{promise}
 use Rattle.interval.specs.declared.addresses.WordAddr.{WordAddr}
-use Rattle.meter.specs.declared.Work.{Work}
 use Rattle.meter.specs.Core.{core}
 use Rattle.meter.specs.Starting.{noCard, freshWork, freshOf}
 use Rattle.meter.proofs.Starts.{fresh-sound}
 use Rattle.aberzhan.specs.declared.Module.{Module}
-use Rattle.aberzhan.specs.Holds.{Value}
 use Rattle.aberzhan.specs.Ports.{ports, aberzhan}
-use Rattle.aberzhan.specs.Module.{seen, kept, kept-seen, freshModule, startOf}
+use Rattle.aberzhan.specs.Module.{seen, kept, kept-seen, freshModule}
 use Rattle.aberzhan.specs.Sound.{SoundModule}
 use Rattle.aberzhan.specs.Calls.{Call, stepOf, callOf, Log, program}
 use Rattle.aberzhan.specs.Demand3.{runOf, shorterCalls, ProgramDemand3, ModuleDemand3}
 use Rattle.aberzhan.proofs.Soundness.{sounds, shut-phased, from-start}
-use Rattle.aberzhan.proofs.Agreement.{code}
+use Rattle.aberzhan.proofs.Agreement.{code, eighteen}
 use Rattle.aberzhan.proofs.Program.{logOf, program-is, calls-are}
 
 -- a fresh module's state
@@ -78,6 +75,7 @@ module _ (z : Module) (start : seen z ≡ fresh aberzhan (new core noCard (z .me
     heard = ap (λ (l : Log). l .heard) (program-is ks z) ∙ did .heard;
     end = end-is;
     sound = sound-end;
+    eighteen = λ v i xs. eighteen (program ks z .end) v i xs (sound-end .meter);
     none-refused = ap (λ (l : Log). l .refusals) short-is ∙ both .none-refused;
     same-values = λ p. ap (λ (l : Log). on (l .heard) p) short-is ∙ both .same-values p ∙ ap (λ (l : Log). on (l .heard) p) (sym (program-is ks z));
     same-struct =

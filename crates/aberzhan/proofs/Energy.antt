@@ -1,11 +1,10 @@
 -- The energy rule over the whole history of closes: what an interval's close keeps, every sequence of steps keeps.
-use Prim.Native.Nat.{ℕ, _≤_}
+use Prim.Native.Nat.{ℕ}
 use mathlib.Core.Path.{_≡_, refl, sym, ap, subst, _∙_}
 use mathlib.Core.List.{List, [], _∷_, _++_, map, foldl, foldl-append}
-use lib.IntN.{ℤ}
 use Rattle.steps.specs.Module.{State}
 use Rattle.steps.specs.Work.{LastingWork}
-use Rattle.steps.specs.OneCard.{Interval, sumsOf, worked, workedAll}
+use Rattle.steps.specs.OneCard.{Interval, sumsOf, workedAll}
 use Rattle.steps.proofs.Work.{always-work}
 use Rattle.card.specs.declared.Card.{Card}
 use Rattle.interval.specs.declared.addresses.WordAddr.{WordAddr}
@@ -18,13 +17,13 @@ use Rattle.interval.specs.Energies.{noEnergy}
 use Rattle.interval.specs.Close.{sourceAfter, registersAfter, closedOf, noneClosed}
 use Rattle.meter.specs.declared.Work.{Work}
 use Rattle.meter.specs.Core.{core, withSums, lastOf, closedWork}
-use Rattle.meter.specs.Starting.{freshWork, freshOf}
+use Rattle.meter.specs.Starting.{freshOf}
 use Rattle.aberzhan.specs.declared.Module.{Module}
 use Rattle.aberzhan.specs.Ports.{ports, aberzhan}
-use Rattle.aberzhan.specs.Module.{seen, freshModule, startOf}
-use Rattle.aberzhan.specs.Calls.{Call, stepOf, program}
+use Rattle.aberzhan.specs.Module.{seen, freshModule}
+use Rattle.aberzhan.specs.Calls.{Call, stepOf}
 use Rattle.aberzhan.specs.Demand3.{runOf, ProgramDemand3}
-use Rattle.aberzhan.specs.EnergyHistory.{powerOf, plusWith, minusWith, plusOver, minusOver, Counted, EachCounted, ProgramEnergy, EnergyHistory}
+use Rattle.aberzhan.specs.EnergyHistory.{plusWith, minusWith, Counted, EachCounted, ProgramEnergy, EnergyHistory}
 use Rattle.aberzhan.proofs.Soundness.{from-start}
 use Rattle.aberzhan.proofs.Demand3.{started, closedFrom, one-card-each}
 

@@ -1,5 +1,5 @@
 -- A program's log is that of crate `steps` for the steps that it asks for.
-use mathlib.Core.Path.{_≡_, refl, sym, ap, _∙_}
+use mathlib.Core.Path.{_≡_, refl, ap, _∙_}
 use mathlib.Core.List.{List, [], _∷_, map}
 use mathlib.Core.Option.{none, some}
 use Rattle.steps.specs.Module.{Step, atPort, block}

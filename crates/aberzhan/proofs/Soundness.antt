@@ -1,22 +1,21 @@
 -- Whatever a start and steps make is sound.
-use Prim.Native.Nat.{ℕ, _-_, _≤_, _<_}
+use Prim.Native.Nat.{ℕ, _-_, _≤_}
 use mathlib.Core.Path.{_≡_, refl, sym, subst}
 use mathlib.Core.Bool.{Bool, true, false, cond, _&&_, true≢false}
 use mathlib.Core.List.{List}
-use native.Mathlib.Omega.{arith}
 use lib.Dec.{T, eqb, ltb, leb, lit≤}
 use lib.IntN.{ℤ, pos, negsuc, natAbs}
 use lib.Signed.{nonNeg}
 use lib.ListN.{getD, set, length, replicate}
 use lib.Seq.{getD-set-same, getD-set-other, set-out}
 use borrow.Author.Tests.{leb-true, ltb-true, ltb-false, eqb-true, eqb-false}
-use Rattle.steps.specs.Answers.{OrRefusal, refused, accepted}
+use Rattle.steps.specs.Answers.{refused, accepted}
 use Rattle.steps.specs.Gauge.{latest}
 use Rattle.steps.specs.Calls.{Sound}
 use Rattle.steps.proofs.Outcomes.{refused-never, accepted-is}
 use Rattle.card.specs.declared.Serial.{Serial}
 use Rattle.card.specs.declared.Card.{Card}
-use Rattle.card.specs.Every.{and-left, and-right}
+use Rattle.card.specs.Every.{and-right}
 use Rattle.card.specs.Serials.{isSerial, serialOf}
 use Rattle.card.specs.Fields.{lows, highs, isField, fitsField, fieldInRange}
 use Rattle.interval.specs.declared.addresses.WordAddr.{WordAddr}
@@ -24,7 +23,6 @@ use Rattle.interval.specs.Tracking.{off}
 use Rattle.meter.specs.Sound.{Phased, Sound as SoundMeter}
 use Rattle.meter.specs.Core.{core, samplesOf, kept as keptMeter}
 use Rattle.meter.specs.Starting.{everySlot, numbersOk, freshOf, notStarted, startOf as meterStart}
-use Rattle.meter.specs.declared.Stepped.{Stepped as Metered}
 use Rattle.meter.specs.declared.Answer.the-variants.{Done as MeterDone}
 use Rattle.meter.proofs.Agreement.{feeds-sound, wait-sound}
 use Rattle.meter.proofs.Starts.{numbers-in}

@@ -1,6 +1,6 @@
 -- Each closed interval is worked from its card, its samples and the raw current before its first, as document 01 has it for a whole interval.
 use Prim.Native.Nat.{ℕ, _≤_}
-use mathlib.Core.Path.{_≡_, refl, sym, ap, subst, _∙_}
+use mathlib.Core.Path.{_≡_, refl, sym, ap, _∙_}
 use mathlib.Core.Bool.{Bool, true, false, cond, not}
 use mathlib.Core.List.{List, [], _∷_, _++_}
 use mathlib.Core.Option.{Option, none, some}
@@ -17,14 +17,14 @@ use Rattle.interval.specs.declared.close.Settings.{Settings}
 use Rattle.interval.specs.declared.close.Closed.{Closed}
 use Rattle.interval.specs.Sums.{Sample, addedAll, emptied, previous, noSums}
 use Rattle.interval.specs.Whole.{lastRaw, intervalOf, sumsOf as wholeSums}
-use Rattle.interval.specs.Close.{closedOf, noneClosed}
+use Rattle.interval.specs.Close.{closedOf}
 use Rattle.interval.proofs.Wholes.{sums-are, closes-whole}
 use Rattle.meter.specs.declared.Work.{Work}
 use Rattle.meter.specs.Core.{core, withSums, lastOf, closedWork}
-use Rattle.meter.specs.Starting.{freshWork, freshOf}
+use Rattle.meter.specs.Starting.{freshOf}
 use Rattle.aberzhan.specs.declared.Module.{Module}
 use Rattle.aberzhan.specs.Ports.{ports}
-use Rattle.aberzhan.specs.Module.{freshModule, startOf}
+use Rattle.aberzhan.specs.Module.{freshModule}
 use Rattle.aberzhan.specs.Calls.{Call}
 use Rattle.aberzhan.specs.Demand3.{runOf, ProgramDemand3}
 use Rattle.aberzhan.specs.Intervals.{rawBefore, wholes, ProgramIntervals, WholeIntervals}

@@ -7,7 +7,7 @@ use mathlib.Core.List.{List, [], _∷_, _++_, map}
 use mathlib.Core.Option.{none, some}
 use lib.IntN.{ℤ, pos, negsuc}
 use lib.ListN.{replicate}
-use Rattle.steps.specs.Port.{Port, port0, port1, PerPort}
+use Rattle.steps.specs.Port.{port0, port1, PerPort}
 use Rattle.steps.specs.Module.{Op, edit, hold, read, Step, atPort, block}
 use Rattle.steps.specs.Run.{run}
 use Rattle.steps.specs.Shorter.{Act, plain, card, stepsOf, shorter}
@@ -155,8 +155,8 @@ abbrev pub energy : ℕ → ℕ → Energy
 energy count rest = record { count = count; rest = rest }
 
 -- P is 30: 60 joins the remainder
-abbrev pub first : Closed
-first = record {
+abbrev pub interval1 : Closed
+interval1 = record {
   number = 1;
   serial = s0417;
   regs = record {
@@ -167,8 +167,8 @@ first = record {
 }
 
 -- P is 22, S 23: 44 makes one bucket and 4
-abbrev pub second : Closed
-second = record {
+abbrev pub interval2 : Closed
+interval2 = record {
   number = 2;
   serial = s0417;
   regs = record {
@@ -179,8 +179,8 @@ second = record {
 }
 
 -- the current is doubled by card 601 and turned round: P is -60, and 120 is one bucket and 20 of the other direction
-abbrev pub third : Closed
-third = record {
+abbrev pub interval3 : Closed
+interval3 = record {
   number = 3;
   serial = s601;
   regs = record {
@@ -191,7 +191,7 @@ third = record {
 }
 
 abbrev pub dayClosed : List Closed
-dayClosed = first ∷ second ∷ third ∷ []
+dayClosed = interval1 ∷ interval2 ∷ interval3 ∷ []
 
 abbrev pub dayHeard : PerPort (List (Op aberzhan × Value))
 dayHeard = record {
@@ -225,7 +225,7 @@ evening = record {
       settings = record { n = 2; b = 100; track = track };
       sums = record { vv = 0; flow = noFlow; seen = true; raw = negsuc 59 };
       some = true;
-      last = third;
+      last = interval3;
     };
   };
   desk0 = record {
@@ -235,8 +235,8 @@ evening = record {
     written = true ∷ replicate 7 false;
   };
   desk1 = shutDesk;
-  hold0 = record { some = true; closed = first; track = track };
-  hold1 = record { some = true; closed = third; track = track };
+  hold0 = record { some = true; closed = interval1; track = track };
+  hold1 = record { some = true; closed = interval3; track = track };
 }
 
 -- ---- that it is so

@@ -9,12 +9,13 @@ use Rattle.steps.specs.Shorter.{stepsOf, shorter}
 use Rattle.steps.specs.Gauge.{new}
 use Rattle.steps.specs.Promise.{Promise}
 use Rattle.interval.specs.declared.addresses.WordAddr.{WordAddr}
+use Rattle.interval.specs.Sums.{Sample}
 use Rattle.meter.specs.Core.{core}
 use Rattle.meter.specs.Starting.{noCard}
 use Rattle.aberzhan.specs.declared.Module.{Module}
 use Rattle.aberzhan.specs.Ports.{ports, aberzhan}
 use Rattle.aberzhan.specs.Module.{seen, startOf}
-use Rattle.aberzhan.specs.Sound.{SoundModule}
+use Rattle.aberzhan.specs.Sound.{SoundModule, Eighteen}
 use Rattle.aberzhan.specs.Calls.{Call, stepOf, callOf, program}
 
 -- the module z is what a start returned, and `ks` are the calls
@@ -38,6 +39,7 @@ module _ (z : Module) (ks : List Call) where
     pub heard : program ks z .heard ≡ runOf .heard
     pub end : seen (program ks z .end) ≡ runOf .end
     pub sound : SoundModule (program ks z .end)
+    pub eighteen : (v i : List ℤ) (xs : List Sample) → Eighteen (program ks z .end) v i xs
     -- the shorter sequence of calls: none is refused, every hold and every read returns the same, and it leaves the very same struct
     pub none-refused : program shorterCalls z .refusals ≡ 0
     pub same-values : (p : Port) → on (program shorterCalls z .heard) p ≡ on (program ks z .heard) p

@@ -5,6 +5,7 @@ pub mod Reading
 pub mod Ports
 pub mod Answers
 pub mod Module
+pub mod Inside
 pub mod Sound
 pub mod Calls
 pub mod Demand3

@@ -51,16 +51,16 @@ module _ (va-rms ia-rms ia-peak watt-a va-a pfa ia-crest : ℤ) (pos-cnt neg-cnt
       ∷ (0x165, max1) ∷ (0x168, max2) ∷ (0x16B, max3) ∷ (0x16E, max4) ∷ (0x171, max5) ∷ (0x174, max6)
       ∷ []
 
-  abbrev pub readEach : List WordAddr → List (ℕ × ℤ) → List (OrRefusal Value)
-  readEach track t = map (λ (e : ℕ × ℤ). look (held track) (record { 0 = e .0 })) t
+  abbrev pub readAll : List WordAddr → List (ℕ × ℤ) → List (OrRefusal Value)
+  readAll track t = map (λ (e : ℕ × ℤ). look (held track) (record { 0 = e .0 })) t
 
-  abbrev pub given : List (ℕ × ℤ) → List (OrRefusal Value)
-  given t = map (λ (e : ℕ × ℤ). accepted (register (e .1))) t
+  abbrev pub toldAll : List (ℕ × ℤ) → List (OrRefusal Value)
+  toldAll t = map (λ (e : ℕ × ℤ). accepted (register (e .1))) t
 
   -- each byte address gives its register; MIN and MAX of a slot that is off are refused with 17
   pub record TableRead : Type 0 where
-    pub all-on : readEach (replicate 6 (record { 0 = 0x2B })) (plainTable ++ slotTable) ≡ given (plainTable ++ slotTable)
-    pub all-off : readEach (replicate 6 off) (plainTable ++ slotTable) ≡ given plainTable ++ replicate 12 (refused 17)
-    pub third-off : readEach (record { 0 = 0x2B } ∷ record { 0 = 0x2B } ∷ off ∷ record { 0 = 0x2B } ∷ record { 0 = 0x2B } ∷ record { 0 = 0x2B } ∷ []) ((0x156, min2) ∷ (0x159, min3) ∷ (0x16B, max3) ∷ (0x16E, max4) ∷ [])
+    pub all-on : readAll (replicate 6 (record { 0 = 0x2B })) (plainTable ++ slotTable) ≡ toldAll (plainTable ++ slotTable)
+    pub all-off : readAll (replicate 6 off) (plainTable ++ slotTable) ≡ toldAll plainTable ++ replicate 12 (refused 17)
+    pub third-off : readAll (record { 0 = 0x2B } ∷ record { 0 = 0x2B } ∷ off ∷ record { 0 = 0x2B } ∷ record { 0 = 0x2B } ∷ record { 0 = 0x2B } ∷ []) ((0x156, min2) ∷ (0x159, min3) ∷ (0x16B, max3) ∷ (0x16E, max4) ∷ [])
         ≡ accepted (register min2) ∷ refused 17 ∷ refused 17 ∷ accepted (register max4) ∷ []
-    pub no-register : readEach (replicate 6 (record { 0 = 0x2B })) ((0x154, pos 0) ∷ (0x2B, pos 0) ∷ (0, pos 0) ∷ []) ≡ replicate 3 (refused 16)
+    pub no-register : readAll (replicate 6 (record { 0 = 0x2B })) ((0x154, pos 0) ∷ (0x2B, pos 0) ∷ (0, pos 0) ∷ []) ≡ replicate 3 (refused 16)

@@ -1,7 +1,7 @@
 // The module: two ports that stage cards and hold readings, before the meter.
 ghost use mathlib.Core.Path.{_≡_};
-ghost use Rattle.aberzhan.specs.Ports.{isPort};
-ghost use Rattle.aberzhan.specs.Module.{deskAt, holdAt, deskPut, holdPut, waitPut, meterPut, editedAt, openOf, writeOf, commitOf, dropOf, holdOf, readOf, blockOf, notHeld, freshModule, startOf};
+ghost use Rattle.aberzhan.specs.Inside.{isPort, deskAt, holdAt, deskPut, holdPut, waitPut, editedAt};
+ghost use Rattle.aberzhan.specs.Module.{meterPut, openOf, writeOf, commitOf, dropOf, holdOf, readOf, blockOf, notHeld, freshModule, startOf};
 ghost use Rattle.aberzhan.specs.Answers.{measured};
 
 pub mod answers;
