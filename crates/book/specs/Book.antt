@@ -30,5 +30,6 @@ pub record Sized (b : List ℕ) : Type 0 where
 unfoldable pub sized : List ℕ → Bool
 sized b = leb (cards b .count) 1024 && leb (withdrawn b .count) 512 && eqb (length b) (endOf (withdrawn b))
 
+-- a well-formed book
 unfoldable pub wellFormed : List ℕ → Bool
 wellFormed b = sized b && sectionOk b (cards b) && sectionOk b (withdrawn b)

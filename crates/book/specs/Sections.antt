@@ -34,6 +34,7 @@ serialAt b s k = part b (placeOf s k) 13
 unfoldable pub entryOk : ℕ → List ℕ → Bool
 entryOk size e = cond (eqb size 37) (isCard e) (holdsSerial e)
 
+-- each entry of the section is such a one
 unfoldable pub entriesOk : List ℕ → Section → Bool
 entriesOk b s = every (λ (k : ℕ). entryOk (s .size) (entryAt b s k)) (s .count)
 
@@ -46,9 +47,11 @@ same x y = every (λ (k : ℕ). eqb (getD x k 0) (getD y k 0)) 13
 unfoldable pub fresh : List ℕ → Section → ℕ → Bool
 fresh b s j = every (λ (i : ℕ). not (same (serialAt b s i) (serialAt b s j))) j
 
+-- no serial stands twice within the section
 unfoldable pub distinct : List ℕ → Section → Bool
 distinct b s = every (fresh b s) (s .count)
 
+-- the check of a section
 unfoldable pub sectionOk : List ℕ → Section → Bool
 sectionOk b s = entriesOk b s && distinct b s
 
@@ -61,5 +64,6 @@ firstOf b s x = first (λ (k : ℕ). same (serialAt b s k) x) (s .count)
 abbrev pub findIn : List ℕ → Section → List ℕ → ℕ
 findIn b s t = firstOf b s (serialBytes (serialOf t))
 
+-- the serial t stands in the section
 unfoldable pub has : List ℕ → Section → List ℕ → Bool
 has b s t = ltb (findIn b s t) (s .count)

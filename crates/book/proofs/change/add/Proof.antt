@@ -20,18 +20,16 @@ accepted-requires c κs = search needs
 same-length : tie.Need-same-length
 same-length c = search needs
 
+-- whether the change is accepted
+answered : (c : tie.After-accepted) → eqb (addAnswer (now (c .before .before .before .before .before .args .buffer)) (c .before .before .before .before .before .args .used) (now (c .before .before .before .before .before .args .text)) (c .before .before .before .before .before .args .values) .number) 0 ≡ c .accepted .result
+answered c = ap (λ (x : Answer). eqb (x .number) 0) (sym (c .before .add-answer .ensures)) ∙ sym (c .accepted .ensures)
+
 returns : tie.Need-returns
 unfolding added
-returns c =
-    let a = c .before .before .add-answer .ensures in
-    let n = ap (λ (x : Answer). eqb (x .number) 0) (sym a) ∙ sym (c .before .accepted .ensures) ∙ not-true _ (c .if1 .taken) in
-    (a, simp n)
-
-passed : (c : tie.Else1) → eqb (addAnswer (now (c .before .before .before .before .before .before .args .buffer)) (c .before .before .before .before .before .before .args .used) (now (c .before .before .before .before .before .before .args .text)) (c .before .before .before .before .before .before .args .values) .number) 0 ≡ true
-passed c = ap (λ (x : Answer). eqb (x .number) 0) (sym (c .before .before .add-answer .ensures)) ∙ sym (c .before .accepted .ensures) ∙ not-false _ (c .if1 .left)
+returns c = (c .before .before .add-answer .ensures, simp (answered (c .before) ∙ not-true _ (c .if1 .taken)))
 
 put-card-requires : tie.Need-put-card-requires
-put-card-requires c κs = takes-card _ _ _ _ (search needs) (adds _ _ _ _ (eqb-true _ 0 (passed (c .before))))
+put-card-requires c κs = takes-card _ _ _ _ (search needs) (adds _ _ _ _ (eqb-true _ 0 (answered (c .before .before) ∙ not-false _ (c .before .if1 .left))))
 
 same-length-2 : tie.Need-same-length-2
 same-length-2 c = search needs
@@ -40,7 +38,7 @@ returns-2 : tie.Need-returns-2
 unfolding added
 returns-2 c =
     let p = c .before .before in
-    (p .before .before .before .before .add-answer .ensures, simp (passed (p .before .before)) (p .put-card .ensures))
+    (p .before .before .before .before .add-answer .ensures, simp (answered (p .before .before .before) ∙ not-false _ (p .before .before .if1 .left)) (p .put-card .ensures))
 
 pub add-spec : {M : Type 1} → statement M
 add-spec =
