@@ -40,7 +40,7 @@ pub struct Closed {
 
 impl Source {
     // The source after an interval of n samples; vv is the sum of the voltage squares.
-    pub fn after(self, c: Card, vv: u64, f: Flow, n: u32, b: u64) -> Source
+    pub(crate) fn after(self, c: Card, vv: u64, f: Flow, n: u32, b: u64) -> Source
         ensures { λ r. ⌜ r ≡ sourceAfter c (vrmsOf vv n) f n b self ⌝ }
     {
         let p = rules::watt(c, f, n);
@@ -66,7 +66,7 @@ fn seven_of(v: i32, f: [i32; 6]) -> [i32; 7]
 
 impl Registers {
     // The registers after an interval of n samples.
-    pub fn after(self, first: bool, t: Settings, c: Card, s: Sums, n: u32) -> Registers
+    pub(crate) fn after(self, first: bool, t: Settings, c: Card, s: Sums, n: u32) -> Registers
         ensures { λ r. ⌜ r ≡ registersAfter first t c s n self ⌝ }
     {
         let v = rules::vrms(s.vv, n) as i32;

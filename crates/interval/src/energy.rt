@@ -49,7 +49,7 @@ impl Energy {
     }
 
     // The amount joins only its own direction.
-    pub fn join(self, own: bool, amount: u64, bucket: u64) -> Energy
+    pub(crate) fn join(self, own: bool, amount: u64, bucket: u64) -> Energy
         ensures { λ r. ⌜ r ≡ joinedBy own self amount bucket ⌝ }
     {
         if own {
@@ -59,14 +59,14 @@ impl Energy {
     }
 
     // The direction of a power above 0.
-    pub fn plus_after(self, p: i32, n: u32, bucket: u64) -> Energy
+    pub(crate) fn plus_after(self, p: i32, n: u32, bucket: u64) -> Energy
         ensures { λ r. ⌜ r ≡ plusAfter p n bucket self ⌝ }
     {
         self.join(0 < p, amount(p, n), bucket)
     }
 
     // The direction of a power below 0.
-    pub fn minus_after(self, p: i32, n: u32, bucket: u64) -> Energy
+    pub(crate) fn minus_after(self, p: i32, n: u32, bucket: u64) -> Energy
         ensures { λ r. ⌜ r ≡ minusAfter p n bucket self ⌝ }
     {
         self.join(p < 0, amount(p, n), bucket)

@@ -9,7 +9,7 @@ use super::sums::Flow;
 use card::Card;
 
 // The root of the mean square less a square. No samples have the root 0.
-pub fn root_mean_square(sum: u64, n: u32, less: u64) -> u32
+pub(crate) fn root_mean_square(sum: u64, n: u32, less: u64) -> u32
     ensures { λ r. ⌜ r ≡ rms sum n less ⌝ }
 {
     if n == 0 {
@@ -22,7 +22,7 @@ pub fn root_mean_square(sum: u64, n: u32, less: u64) -> u32
     number::cap(number::root(mean - less))
 }
 
-pub fn squelch(level: i32, r: u32) -> u32
+pub(crate) fn squelch(level: i32, r: u32) -> u32
     ensures { λ x. ⌜ x ≡ squelched (natAbs level) r ⌝ }
 {
     if (r as u64) < number::size(level as i64) {
@@ -32,20 +32,20 @@ pub fn squelch(level: i32, r: u32) -> u32
     }
 }
 
-pub fn active(sum: i64, n: u32, poffs: i32) -> i32
+pub(crate) fn active(sum: i64, n: u32, poffs: i32) -> i32
     ensures { λ r. ⌜ r ≡ activeOf sum n (natAbs poffs) ⌝ }
 {
     let p = number::clip(number::toward_zero(sum, n as u64 * 8388608));
     number::lessen(p as i64, number::size(poffs as i64)) as i32
 }
 
-pub fn apparent(v: u32, i: u32) -> u64
+pub(crate) fn apparent(v: u32, i: u32) -> u64
     ensures { λ r. ⌜ r ≡ apparentOf v i ⌝ }
 {
     (v as u64) * (i as u64) / 8388608
 }
 
-pub fn factor(p: i32, s: u32) -> i32
+pub(crate) fn factor(p: i32, s: u32) -> i32
     ensures { λ r. ⌜ r ≡ factorOf p s ⌝ }
 {
     if s == 0 {
@@ -55,7 +55,7 @@ pub fn factor(p: i32, s: u32) -> i32
     number::held_within(q, -4194304, 4194304) as i32
 }
 
-pub fn crest(peak: u32, irms: u32) -> u32
+pub(crate) fn crest(peak: u32, irms: u32) -> u32
     ensures { λ r. ⌜ r ≡ crestOf peak irms ⌝ }
 {
     if irms == 0 {
@@ -64,27 +64,27 @@ pub fn crest(peak: u32, irms: u32) -> u32
     number::cap((peak as u64) * 65536 / (irms as u64))
 }
 
-pub fn vrms(vv: u64, n: u32) -> u32
+pub(crate) fn vrms(vv: u64, n: u32) -> u32
     ensures { λ r. ⌜ r ≡ vrmsOf vv n ⌝ }
 {
     root_mean_square(vv, n, 0)
 }
 
-pub fn irms(c: Card, f: Flow, n: u32) -> u32
+pub(crate) fn irms(c: Card, f: Flow, n: u32) -> u32
     ensures { λ r. ⌜ r ≡ irmsOf c f n ⌝ }
 {
     let x = c.fields;
     squelch(x[6], root_mean_square(f.ii, n, number::square(x[5])))
 }
 
-pub fn watt(c: Card, f: Flow, n: u32) -> i32
+pub(crate) fn watt(c: Card, f: Flow, n: u32) -> i32
     ensures { λ r. ⌜ r ≡ wattOf c f n ⌝ }
 {
     let x = c.fields;
     active(f.vi, n, x[7])
 }
 
-pub fn ipeak(f: Flow) -> u32
+pub(crate) fn ipeak(f: Flow) -> u32
     ensures { λ r. ⌜ r ≡ ipeakOf f ⌝ }
 {
     number::cap(f.peak as u64)
@@ -102,7 +102,7 @@ fn lay(v: u32, i: u32, peak: u32, p: i32) -> [i32; 6]
 }
 
 // The figures of one current source; v is VRMS, and at most 8,388,607 of it counts.
-pub fn figures(c: Card, vv: u64, f: Flow, n: u32) -> [i32; 6]
+pub(crate) fn figures(c: Card, vv: u64, f: Flow, n: u32) -> [i32; 6]
     ensures { λ r. ⌜ r ≡ figuresOf c (vrmsOf vv n) f n ⌝ }
 {
     let v = vrms(vv, n);

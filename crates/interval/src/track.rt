@@ -10,7 +10,7 @@ pub struct Ends {
     pub high: [i32; 6],
 }
 
-pub fn lower(first: bool, now: i32, old: i32) -> i32
+fn lower(first: bool, now: i32, old: i32) -> i32
     ensures { λ r. ⌜ r ≡ lowest first now old ⌝ }
 {
     if first {
@@ -19,7 +19,7 @@ pub fn lower(first: bool, now: i32, old: i32) -> i32
     if now < old { now } else { old }
 }
 
-pub fn higher(first: bool, now: i32, old: i32) -> i32
+fn higher(first: bool, now: i32, old: i32) -> i32
     ensures { λ r. ⌜ r ≡ highest first now old ⌝ }
 {
     if first {
@@ -29,7 +29,7 @@ pub fn higher(first: bool, now: i32, old: i32) -> i32
 }
 
 // The value that a slot tracks; of a slot that is off, 0.
-pub fn tracked_of(word: WordAddr, seven: [i32; 7]) -> i32
+fn tracked_of(word: WordAddr, seven: [i32; 7]) -> i32
     ensures { λ r. ⌜ r ≡ tracked word seven ⌝ }
 {
     let k = place_of(word);
@@ -37,7 +37,7 @@ pub fn tracked_of(word: WordAddr, seven: [i32; 7]) -> i32
 }
 
 impl Ends {
-    pub fn follow(self, first: bool, track: [WordAddr; 6], seven: [i32; 7]) -> Ends
+    pub(crate) fn follow(self, first: bool, track: [WordAddr; 6], seven: [i32; 7]) -> Ends
         ensures { λ r. ⌜ r ≡ followed first track seven self ⌝ }
     {
         let mut low = self.low;

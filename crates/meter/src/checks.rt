@@ -8,7 +8,7 @@ use interval::addresses;
 use interval::addresses::WordAddr;
 
 // Whether every sample is in the 24-bit range. No branch a sample: a machine can test several at once.
-pub fn all_in_range(a: &[i32]) -> bool
+pub(crate) fn all_in_range(a: &[i32]) -> bool
     ensures { λ r. ⌜ r ≡ every24 (now (a .entry)) ⌝ }
 {
     let mut ok = true;
@@ -21,7 +21,7 @@ pub fn all_in_range(a: &[i32]) -> bool
 }
 
 // Whether a card's PHASE is in its range.
-pub fn phase_in_range(c: Card) -> bool
+pub(crate) fn phase_in_range(c: Card) -> bool
     ensures { λ r. ⌜ r ≡ phaseInRange c ⌝ }
 {
     let f = c.fields;
@@ -30,7 +30,7 @@ pub fn phase_in_range(c: Card) -> bool
 }
 
 // Whether a slot is off or names a register that can be tracked.
-pub fn slot_ok(w: WordAddr) -> bool
+fn slot_ok(w: WordAddr) -> bool
     ensures { λ r. ⌜ r ≡ slotOk w ⌝ }
 {
     let x = w.0;
@@ -38,7 +38,7 @@ pub fn slot_ok(w: WordAddr) -> bool
     (x == 0) | (p < 7)
 }
 
-pub fn all_slots(track: [WordAddr; 6]) -> bool
+pub(crate) fn all_slots(track: [WordAddr; 6]) -> bool
     ensures { λ r. ⌜ r ≡ everySlot track ⌝ }
 {
     let mut k: usize = 0;

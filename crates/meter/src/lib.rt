@@ -65,7 +65,7 @@ impl Work {
     }
 
     // The interval closes, worked with one card.
-    pub fn closed(self, c: Card) -> Work
+    fn closed(self, c: Card) -> Work
         ensures { λ r. ⌜ r ≡ closedWork c self ⌝ }
     {
         let settings = self.settings;
@@ -84,7 +84,7 @@ impl Work {
 
 impl Meter {
     // At an interval's first sample a card that waits comes into force.
-    pub fn begun(self) -> Meter
+    fn begun(self) -> Meter
         ensures { λ r. ⌜ r ≡ begunOf self ⌝ }
     {
         if self.taken == 0 {
@@ -106,7 +106,7 @@ impl Meter {
     }
 
     // The running interval has n samples, with the sums of w; the last of N closes it.
-    pub fn ended(mut self, n: u32, w: Work) -> Meter
+    fn ended(mut self, n: u32, w: Work) -> Meter
         ensures { λ r. ⌜ r ≡ endOf n w self ⌝ }
     {
         let t = w.settings;
@@ -163,7 +163,7 @@ impl Meter {
     }
 
     // Whether the state is one that steps can have made: then no sum of the running interval can overflow.
-    pub fn sound(self) -> bool
+    fn sound(self) -> bool
         ensures { λ r. ⌜ r ≡ soundOf self ⌝ }
     {
         let w = self.work;
@@ -185,7 +185,7 @@ impl Meter {
     }
 
     // Whether a card is in force or waits.
-    pub fn has_card(self) -> bool
+    fn has_card(self) -> bool
         ensures { λ r. ⌜ r ≡ carded self ⌝ }
     {
         if self.sound() {
