@@ -1,0 +1,3 @@
+-- Laws of the definitions, which the functions' proofs cite.
+pub mod TextLaws
+pub mod NumberLaws

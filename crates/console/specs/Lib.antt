@@ -1,0 +1,3 @@
+-- What the console's lines mean: reference/CONSOLE.md has the grammar in words.
+pub mod Texts
+pub mod Numbers
