@@ -1,3 +1,5 @@
 -- Laws of the definitions, which the functions' proofs cite.
 pub mod TextLaws
 pub mod NumberLaws
+pub mod ItemLaws
+pub mod WordLaws

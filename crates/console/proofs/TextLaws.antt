@@ -22,6 +22,10 @@ module _ (w t : List ℕ) (k : ℕ) (h : k < length w) (g : k < length t) where
   pub begins-differ : (getD t k 0 ≡ getD w k 0 → ⊥) → beginsWith (drop k w) (drop k t) ≡ false
   begins-differ e = rw (begins-turn, ne-eqb (getD t k 0) (getD w k 0) e) refl
 
+pub and-left : (a b : Bool) → (a && b) ≡ true → a ≡ true
+and-left true b e = refl
+and-left false b e = e
+
 and-right : (a b : Bool) → (a && b) ≡ true → b ≡ true
 and-right true b e = e
 and-right false b e = absurd (false≢true e)

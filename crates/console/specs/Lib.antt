@@ -1,3 +1,5 @@
 -- What the console's lines mean: reference/CONSOLE.md has the grammar in words.
 pub mod Texts
 pub mod Numbers
+pub mod Items
+pub mod Words

@@ -1,5 +1,7 @@
 // The console: a step a line on standard input, an answer a line on standard output.
+mod items;
 mod number;
 mod texts;
+mod words;
 
 fn main() {}

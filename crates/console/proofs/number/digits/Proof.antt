@@ -65,10 +65,10 @@ loop-less c = omega arith
 
 loop-again : tie.Need-loop-again Inv-loop μ-loop
 loop-again c = (
-      omega arith,
-      omega (arith, within _ _ _ (c .if3 .left)),
-      rw (c .before .before .digit .ensures) (one-more _ _ _ _ (c .before .before .before .before .loop-test .taken) (rw (c .before .before .digit .ensures) at (c .before .if2 .left)) ∙ c .before .before .before .before .before .loop .inv .2),
-    )
+  omega arith,
+  omega (arith, within _ _ _ (c .if3 .left)),
+  rw (c .before .before .digit .ensures) (one-more _ _ _ _ (c .before .before .before .before .loop-test .taken) (rw (c .before .before .digit .ensures) at (c .before .if2 .left)) ∙ c .before .before .before .before .before .loop .inv .2),
+)
 
 returns-4 : tie.Need-returns-4 Inv-loop μ-loop
 returns-4 c =

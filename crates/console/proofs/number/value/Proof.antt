@@ -29,7 +29,7 @@ plus-requires c κs = search needs
 
 returns : tie.Need-returns
 unfolding valueOf
-returns c = 
+returns c =
     let hex = sym (c .before .before .before .before .begins .ensures) ∙ c .before .before .before .if1 .taken in
     simp (hex, c .plus .ensures, c .before .digits .ensures, rest-of 2 (c .before .before .before .before .before .before .before .args .text .now))
 
@@ -56,7 +56,7 @@ minus-requires c κs = search needs
 
 returns-2 : tie.Need-returns-2
 unfolding valueOf
-returns-2 c = 
+returns-2 c =
     let hex = sym (c .before .before .before .before .before .before .before .begins .ensures) ∙ c .before .before .before .before .before .before .if1 .left in
     let below = sym (c .before .before .before .before .begins2 .ensures) ∙ c .before .before .before .if2 .taken in
     simp (hex, below, c .minus .ensures, c .before .digits2 .ensures, rest-of 1 (c .before .before .before .before .before .before .before .before .before .before .args .text .now))
@@ -69,7 +69,7 @@ plus-requires-2 c κs = search needs
 
 returns-3 : tie.Need-returns-3
 unfolding valueOf
-returns-3 c = 
+returns-3 c =
     let hex = sym (c .before .before .before .before .before .before .begins .ensures) ∙ c .before .before .before .before .before .if1 .left in
     let below = sym (c .before .before .before .begins2 .ensures) ∙ c .before .before .if2 .left in
     simp (hex, below, c .plus2 .ensures, c .before .digits3 .ensures)
