@@ -1,0 +1,43 @@
+-- Each public contract decides its outcome: of two results that it allows, each is the other.
+use mathlib.Core.Path.{refl, sym, _∙_}
+use Rattle.promise.specs.Determined.{Decided}
+use Rattle.aberzhan.proofs.Module.start.Kinds as starts-k
+use Rattle.aberzhan.proofs.Module.start.Reads as starts
+use Rattle.aberzhan.proofs.Module.open.Kinds as opens-k
+use Rattle.aberzhan.proofs.Module.open.Reads as opens
+use Rattle.aberzhan.proofs.Module.write.Kinds as writes-k
+use Rattle.aberzhan.proofs.Module.write.Reads as writes
+use Rattle.aberzhan.proofs.Module.commit.Kinds as commits-k
+use Rattle.aberzhan.proofs.Module.commit.Reads as commits
+use Rattle.aberzhan.proofs.Module.drop.Kinds as drops-k
+use Rattle.aberzhan.proofs.Module.drop.Reads as drops
+use Rattle.aberzhan.proofs.Module.hold.Kinds as holds-k
+use Rattle.aberzhan.proofs.Module.hold.Reads as holds
+use Rattle.aberzhan.proofs.Module.read.Kinds as reads-k
+use Rattle.aberzhan.proofs.Module.read.Reads as reads
+use Rattle.aberzhan.proofs.Module.block.Kinds as blocks-k
+use Rattle.aberzhan.proofs.Module.block.Reads as blocks
+
+pub start-decided : Decided 0 starts-k.ps starts-k.r starts.Pre starts.Post
+start-decided = record { always = λ κs a. tt; determined = λ κs a p z z′ ws ws′ q q′. (q ∙ sym q′, refl) }
+
+pub open-decided : Decided 1 opens-k.ps opens-k.r opens.Pre opens.Post
+open-decided = record { always = λ κs a. tt; determined = λ κs a p z z′ ws ws′ q q′. (q ∙ sym q′, refl) }
+
+pub write-decided : Decided 0 writes-k.ps writes-k.r writes.Pre writes.Post
+write-decided = record { always = λ κs a. tt; determined = λ κs a p z z′ ws ws′ q q′. (q ∙ sym q′, refl) }
+
+pub commit-decided : Decided 0 commits-k.ps commits-k.r commits.Pre commits.Post
+commit-decided = record { always = λ κs a. tt; determined = λ κs a p z z′ ws ws′ q q′. (q ∙ sym q′, refl) }
+
+pub drop-decided : Decided 0 drops-k.ps drops-k.r drops.Pre drops.Post
+drop-decided = record { always = λ κs a. tt; determined = λ κs a p z z′ ws ws′ q q′. (q ∙ sym q′, refl) }
+
+pub hold-decided : Decided 0 holds-k.ps holds-k.r holds.Pre holds.Post
+hold-decided = record { always = λ κs a. tt; determined = λ κs a p z z′ ws ws′ q q′. (q ∙ sym q′, refl) }
+
+pub read-decided : Decided 0 reads-k.ps reads-k.r reads.Pre reads.Post
+read-decided = record { always = λ κs a. tt; determined = λ κs a p z z′ ws ws′ q q′. (q ∙ sym q′, refl) }
+
+pub block-decided : Decided 2 blocks-k.ps blocks-k.r blocks.Pre blocks.Post
+block-decided = record { always = λ κs a. tt; determined = λ κs a p z z′ ws ws′ q q′. (q ∙ sym q′, refl) }

@@ -1,0 +1,66 @@
+-- `drop` meets its contract.
+use mathlib.Core.Path.{_≡_, sym, _∙_}
+use mir.Facts.{toZ-ofZ}
+use mathlib.Core.Bool.{true, false}
+use Rattle.aberzhan.specs.Ports.{isPort}
+use Rattle.steps.specs.Module.{dropCard}
+use Rattle.aberzhan.specs.Module.{deskAt, dropOf}
+use Rattle.aberzhan.proofs.Steps.{discarded-open, discarded-10, refused-8, drops, drop-refused}
+use borrow.Author.Needs.{needs}
+use Rattle.aberzhan.proofs.Module.drop.Statement.{statement}
+use Rattle.aberzhan.proofs.Module.drop.Tie as tie
+
+is-port-requires : tie.Need-is-port-requires
+is-port-requires c κs = search needs
+
+desk-requires : tie.Need-desk-requires
+desk-requires c κs = search needs
+
+shut-requires : tie.Need-shut-requires
+shut-requires c κs = search needs
+
+with-desk-requires : tie.Need-with-desk-requires
+with-desk-requires c κs = search needs
+
+-- the port is 0 or 1
+port : (c : tie.Then1) → isPort (c .before .before .args .port) ≡ true
+port c = rw (toZ-ofZ (c .before .before .fits .port)) at (sym (c .before .is-port .ensures) ∙ c .if1 .taken)
+
+the-desk : (c : tie.After-desk) → c .desk .result ≡ deskAt (c .before .before .before .args .self) (c .before .before .before .args .port)
+the-desk c = rw (toZ-ofZ (c .before .before .before .fits .port)) at (c .desk .ensures)
+
+returns : tie.Need-returns
+returns c =
+    let d = c .before .before .before in
+    let start = d .before .before .before in
+    let m = start .args .self in
+    let p = start .args .port in
+    let put = rw (toZ-ofZ (start .fits .port), c .before .shut .ensures) at (c .with-desk .ensures) in
+    rw put (drops m p (port (d .before)) (discarded-open (deskAt m p) (rw (the-desk d) at (c .before .before .if2 .taken))))
+
+returns-2 : tie.Need-returns-2
+returns-2 c =
+    let d = c .before in
+    let start = d .before .before .before in
+    let m = start .args .self in
+    let p = start .args .port in
+    drop-refused m p (port (d .before)) 10 (discarded-10 (deskAt m p) (rw (the-desk d) at (c .if2 .left)))
+
+no-port : (c : tie.Else1) → isPort (c .before .before .args .port) ≡ false
+no-port c = rw (toZ-ofZ (c .before .before .fits .port)) at (sym (c .before .is-port .ensures) ∙ c .if1 .left)
+
+returns-3 : tie.Need-returns-3
+unfolding dropOf
+returns-3 c = refused-8 (c .before .before .args .self) (c .before .before .args .port) dropCard (no-port c)
+
+pub drop-spec : {M : Type 1} → statement M
+drop-spec =
+    tie.close
+    (tie.spec
+    is-port-requires
+    desk-requires
+    shut-requires
+    with-desk-requires
+    returns
+    returns-2
+    returns-3)

@@ -1,0 +1,121 @@
+-- Laws of the steps, one for each way through: what the code puts together is what the step's definition gives.
+use Prim.Native.Nat.{ℕ}
+use mathlib.Core.Path.{_≡_, refl, sym, ap, _∙_}
+use mathlib.Core.Bool.{true, false}
+use mathlib.Core.List.{List}
+use mathlib.Core.Option.{Option}
+use lib.IntN.{ℤ}
+use Rattle.steps.specs.Answers.{OrRefusal, refused, accepted, andThen}
+use Rattle.steps.specs.Port.{Port, port0, port1, on}
+use Rattle.steps.specs.Module.{Op, edit, commit, dropCard, hold, read, atPort, withDesk, didEdit, didCommit, didDrop, didHold, didRead, stepAt, step}
+use Rattle.card.specs.declared.Card.{Card}
+use Rattle.interval.specs.declared.addresses.ByteAddr.{ByteAddr}
+use Rattle.aberzhan.specs.declared.answers.Answer.the-variants.{Done, Refused}
+use Rattle.aberzhan.specs.declared.desks.Desk.{Desk}
+use Rattle.aberzhan.specs.declared.holds.Held.{Held}
+use Rattle.aberzhan.specs.declared.Module.{Module}
+use Rattle.aberzhan.specs.declared.Stepped.{Stepped}
+use Rattle.aberzhan.specs.declared.Holding.{Holding}
+use Rattle.aberzhan.specs.Desks.{Edit, openWith, writeField, opening, writing, shutDesk, edited, finished, discarded, allWritten, cardOn}
+use Rattle.aberzhan.specs.Holds.{Value, copyOf, copied}
+use Rattle.aberzhan.specs.Reading.{look}
+use Rattle.aberzhan.specs.Ports.{aberzhan, portAt, isPort, sideOf}
+use Rattle.aberzhan.specs.Answers.{desked, looked}
+use Rattle.aberzhan.specs.Module.{seen, kept, stepped, holding, notHeld, deskAt, holdAt, deskPut, holdPut, waitPut, editedAt, openOf, writeOf, commitOf, dropOf, holdOf, readOf}
+use Rattle.aberzhan.proofs.Sides.{at-side, no-side}
+
+-- ---- commit and drop of a desk
+pub finished-whole : (d : Desk) → d .opened ≡ true → allWritten (d .written) ≡ true → finished d ≡ accepted (cardOn d)
+unfolding finished
+finished-whole d o w = simp (o, w)
+
+pub finished-13 : (d : Desk) → d .opened ≡ true → allWritten (d .written) ≡ false → finished d ≡ refused 13
+unfolding finished
+finished-13 d o w = simp (o, w)
+
+pub finished-10 : (d : Desk) → d .opened ≡ false → finished d ≡ refused 10
+unfolding finished
+finished-10 d o = simp o
+
+pub discarded-open : (d : Desk) → d .opened ≡ true → discarded d ≡ accepted tt
+unfolding discarded
+discarded-open d o = simp o
+
+pub discarded-10 : (d : Desk) → d .opened ≡ false → discarded d ≡ refused 10
+unfolding discarded
+discarded-10 d o = simp o
+
+-- ---- the steps, for the port s
+edit-side : (m : Module) (s : Port) (q : OrRefusal Desk) →
+    let e = desked (on (seen m .desks) s) q in
+    _≡_ {A = Stepped} (record { answer = e .answer; after = kept (withDesk aberzhan s (e .after) (seen m)) }) (stepped m (andThen q (didEdit aberzhan s (seen m))))
+edit-side m port0 (refused n) = refl
+edit-side m port1 (refused n) = refl
+edit-side m s (accepted d) = refl
+
+read-side : (m : Module) (s : Port) (a : ByteAddr) (q : OrRefusal Value) →
+    _≡_ {A = Stepped} (record { answer = looked q; after = m }) (stepped m (andThen q (didRead aberzhan s a (seen m))))
+read-side m s a (refused n) = refl
+read-side m s a (accepted v) = refl
+
+module _ (m : Module) (p : ℤ) where
+  -- ---- 8, for every step
+  pub refused-8 : (op : Op aberzhan) → isPort p ≡ false → _≡_ {A = Stepped} (record { answer = Refused 8; after = m }) (stepped m (step aberzhan (atPort (portAt p) op) (seen m)))
+  refused-8 op h = ap (λ (o : Option Port). stepped m (step aberzhan (atPort o op) (seen m))) (sym (no-side p h))
+
+  module _ (h : isPort p ≡ true) where
+    at-port : (op : Op aberzhan) → stepped m (stepAt aberzhan (sideOf p) op (seen m)) ≡ stepped m (step aberzhan (atPort (portAt p) op) (seen m))
+    at-port op = ap (λ (o : Option Port). stepped m (step aberzhan (atPort o op) (seen m))) (sym (at-side p h))
+
+    edits : (e : Edit) → editedAt m p (desked (deskAt m p) (edited (deskAt m p) e)) ≡ stepped m (step aberzhan (atPort (portAt p) (edit e)) (seen m))
+    unfolding editedAt deskPut deskAt
+    edits e = edit-side m (sideOf p) (edited (deskAt m p) e) ∙ at-port (edit e)
+
+    pub opens : (text : List ℕ) → editedAt m p (desked (deskAt m p) (opening (deskAt m p) text)) ≡ openOf m p text
+    unfolding openOf
+    opens text = edits (openWith text)
+
+    pub writes : (field v : ℤ) → editedAt m p (desked (deskAt m p) (writing (deskAt m p) field v)) ≡ writeOf m p field v
+    unfolding writeOf
+    writes field v = edits (writeField field v)
+
+    -- a commit and a drop, by what the desk says
+    pub commits : (c : Card) → finished (deskAt m p) ≡ accepted c → _≡_ {A = Stepped} (record { answer = Done; after = waitPut (deskPut m p shutDesk) c }) (commitOf m p)
+    unfolding commitOf waitPut deskPut deskAt
+    commits c e = ap (λ (q : OrRefusal Card). stepped m (andThen q (didCommit aberzhan (sideOf p) (seen m)))) (sym e) ∙ at-port commit
+
+    pub commit-refused : (n : ℕ) → finished (deskAt m p) ≡ refused n → _≡_ {A = Stepped} (record { answer = Refused n; after = m }) (commitOf m p)
+    unfolding commitOf deskAt
+    commit-refused n e = ap (λ (q : OrRefusal Card). stepped m (andThen q (didCommit aberzhan (sideOf p) (seen m)))) (sym e) ∙ at-port commit
+
+    pub drops : discarded (deskAt m p) ≡ accepted tt → _≡_ {A = Stepped} (record { answer = Done; after = deskPut m p shutDesk }) (dropOf m p)
+    unfolding dropOf deskPut deskAt
+    drops e = ap (λ (q : OrRefusal (Unit {0})). stepped m (andThen q (didDrop aberzhan (sideOf p) (seen m)))) (sym e) ∙ at-port dropCard
+
+    pub drop-refused : (n : ℕ) → discarded (deskAt m p) ≡ refused n → _≡_ {A = Stepped} (record { answer = Refused n; after = m }) (dropOf m p)
+    unfolding dropOf deskAt
+    drop-refused n e = ap (λ (q : OrRefusal (Unit {0})). stepped m (andThen q (didDrop aberzhan (sideOf p) (seen m)))) (sym e) ∙ at-port dropCard
+
+    pub reads : (a : ByteAddr) → _≡_ {A = Stepped} (record { answer = looked (look (holdAt m p) a); after = m }) (readOf m p a)
+    unfolding readOf holdAt
+    reads a = read-side m (sideOf p) a (look (holdAt m p) a) ∙ at-port (read a)
+
+    -- a hold
+    held-at : (q : OrRefusal Held) → copied (m .meter .work) ≡ q → holding m (andThen q (didHold aberzhan (sideOf p) tt (seen m))) ≡ holdOf m p
+    unfolding holdOf
+    held-at q e =
+        ap (λ (q : OrRefusal Held). holding m (andThen q (didHold aberzhan (sideOf p) tt (seen m)))) (sym e)
+        ∙ ap (λ (o : Option Port). holding m (step aberzhan (atPort o (hold tt)) (seen m))) (sym (at-side p h))
+
+    pub holds : m .meter .work .some ≡ true → let k = copyOf (m .meter .work) in
+        _≡_ {A = Holding} (record { answer = Done; number = k .closed .number; serial = k .closed .serial; after = holdPut m p k }) (holdOf m p)
+    unfolding holdPut copied
+    holds e = held-at (accepted (copyOf (m .meter .work))) (simp e)
+
+    pub hold-14 : m .meter .work .some ≡ false → notHeld 14 m ≡ holdOf m p
+    unfolding copied
+    hold-14 e = held-at (refused 14) (simp e)
+
+  pub hold-8 : isPort p ≡ false → notHeld 8 m ≡ holdOf m p
+  unfolding holdOf
+  hold-8 h = ap (λ (o : Option Port). holding m (step aberzhan (atPort o (hold tt)) (seen m))) (sym (no-side p h))

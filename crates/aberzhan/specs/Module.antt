@@ -1,0 +1,147 @@
+-- The module as the code keeps it, and what each of its steps returns: the step of crate `steps`, seen as the code keeps it.
+use Prim.Native.Nat.{ℕ}
+use mathlib.Core.Path.{_≡_, refl}
+use mathlib.Core.List.{List}
+use mathlib.Core.Option.{Option}
+use lib.IntN.{ℤ}
+use Rattle.steps.specs.Answers.{refused, accepted}
+use Rattle.steps.specs.Port.{Port, on}
+use Rattle.steps.specs.Module.{Op, edit, commit, dropCard, hold, read, atPort, State, fresh, withMeter, withDesk, withHeld, Report, silent, commits, tells, closes, Outcome, step}
+use Rattle.steps.specs.Gauge.{waitsFor}
+use Rattle.card.specs.declared.Serial.{Serial}
+use Rattle.card.specs.declared.Card.{Card}
+use Rattle.card.specs.Serials.{noSerial}
+use Rattle.interval.specs.declared.addresses.WordAddr.{WordAddr}
+use Rattle.interval.specs.declared.addresses.ByteAddr.{ByteAddr}
+use Rattle.meter.specs.declared.Meter.{Meter}
+use Rattle.meter.specs.Core.{core, seen as seenMeter, kept as keptMeter}
+use Rattle.meter.specs.Blocks.{blockOf as meterBlock}
+use Rattle.meter.specs.Starting.{startOf as meterStart}
+use Rattle.aberzhan.specs.declared.answers.Answer.{Answer}
+use Rattle.aberzhan.specs.declared.answers.Answer.the-variants.{Done, Refused}
+use Rattle.aberzhan.specs.declared.desks.Desk.{Desk}
+use Rattle.aberzhan.specs.declared.desks.Desked.{Desked}
+use Rattle.aberzhan.specs.declared.holds.Held.{Held}
+use Rattle.aberzhan.specs.declared.Module.{Module}
+use Rattle.aberzhan.specs.declared.Stepped.{Stepped}
+use Rattle.aberzhan.specs.declared.Holding.{Holding}
+use Rattle.aberzhan.specs.Desks.{openWith, writeField}
+use Rattle.aberzhan.specs.Holds.{Value, interval, register}
+use Rattle.aberzhan.specs.Answers.{telling, measured}
+use Rattle.aberzhan.specs.Ports.{aberzhan, portAt, sideOf}
+
+-- ---- the struct and the state are the same thing seen two ways
+
+abbrev pub seen : Module → State aberzhan
+seen m = record {
+  meter = seenMeter (m .meter);
+  desks = record { on0 = m .desk0; on1 = m .desk1 };
+  holds = record { on0 = m .hold0; on1 = m .hold1 };
+}
+
+abbrev pub kept : State aberzhan → Module
+kept s = record {
+  meter = keptMeter (s .meter);
+  desk0 = s .desks .on0;
+  desk1 = s .desks .on1;
+  hold0 = s .holds .on0;
+  hold1 = s .holds .on1;
+}
+
+pub seen-kept : (s : State aberzhan) → seen (kept s) ≡ s
+seen-kept s = refl
+
+pub kept-seen : (m : Module) → kept (seen m) ≡ m
+kept-seen m = refl
+
+-- ---- what a step returns: an answer, or document 01's number with the module as it came
+
+abbrev pub answerOf : Report aberzhan → Answer
+answerOf silent = Done
+answerOf (commits c) = Done
+answerOf (tells p op v) = telling v
+answerOf (closes b c) = Done
+
+abbrev pub stepped : Module → Outcome aberzhan → Stepped
+stepped m (refused n) = record { answer = Refused n; after = m }
+stepped m (accepted r) = record { answer = answerOf (r .0); after = kept (r .1) }
+
+-- a hold returns the interval's number and serial besides; 0 and no serial if it is refused
+abbrev pub notHeld : ℕ → Module → Holding
+notHeld n m = record { answer = Refused n; number = 0; serial = noSerial; after = m }
+
+abbrev pub numberTold : Report aberzhan → ℕ
+numberTold (tells p op (interval n s)) = n
+numberTold (tells p op (register v)) = 0
+numberTold silent = 0
+numberTold (commits c) = 0
+numberTold (closes b c) = 0
+
+abbrev pub serialTold : Report aberzhan → Serial
+serialTold (tells p op (interval n s)) = s
+serialTold (tells p op (register v)) = noSerial
+serialTold silent = noSerial
+serialTold (commits c) = noSerial
+serialTold (closes b c) = noSerial
+
+abbrev pub holding : Module → Outcome aberzhan → Holding
+holding m (refused n) = notHeld n m
+holding m (accepted r) = record { answer = answerOf (r .0); number = numberTold (r .0); serial = serialTold (r .0); after = kept (r .1) }
+
+-- ---- the steps
+
+abbrev pub atPortOf : Module → ℤ → Op aberzhan → Outcome aberzhan
+atPortOf m port op = step aberzhan (atPort (portAt port) op) (seen m)
+
+unfoldable pub openOf : Module → ℤ → List ℕ → Stepped
+openOf m port text = stepped m (atPortOf m port (edit (openWith text)))
+
+unfoldable pub writeOf : Module → ℤ → ℤ → ℤ → Stepped
+writeOf m port field v = stepped m (atPortOf m port (edit (writeField field v)))
+
+unfoldable pub commitOf : Module → ℤ → Stepped
+commitOf m port = stepped m (atPortOf m port commit)
+
+unfoldable pub dropOf : Module → ℤ → Stepped
+dropOf m port = stepped m (atPortOf m port dropCard)
+
+unfoldable pub holdOf : Module → ℤ → Holding
+holdOf m port = holding m (atPortOf m port (hold tt))
+
+unfoldable pub readOf : Module → ℤ → ByteAddr → Stepped
+readOf m port address = stepped m (atPortOf m port (read address))
+
+-- a block is the meter's (`proofs/Agreement.antt`: it is the step of crate `steps` for whatever a start and steps make)
+unfoldable pub meterPut : Module → Meter → Module
+meterPut m n = kept (withMeter aberzhan (seenMeter n) (seen m))
+
+unfoldable pub blockOf : Module → List ℤ → List ℤ → Stepped
+blockOf m v i = let r = meterBlock (m .meter) v i in record { answer = measured (r .answer); after = meterPut m (r .after) }
+
+-- ---- the start
+
+unfoldable pub freshModule : Meter → Module
+freshModule m = kept (fresh aberzhan (seenMeter m))
+
+unfoldable pub startOf : ℤ → ℤ → List WordAddr → Stepped
+startOf n b track = let r = meterStart n b track in record { answer = measured (r .answer); after = freshModule (r .after) }
+
+-- ---- parts of the steps, for a port that is 0 or 1
+
+unfoldable pub deskAt : Module → ℤ → Desk
+deskAt m port = on (seen m .desks) (sideOf port)
+
+unfoldable pub holdAt : Module → ℤ → Held
+holdAt m port = on (seen m .holds) (sideOf port)
+
+unfoldable pub deskPut : Module → ℤ → Desk → Module
+deskPut m port d = kept (withDesk aberzhan (sideOf port) d (seen m))
+
+unfoldable pub holdPut : Module → ℤ → Held → Module
+holdPut m port h = kept (withHeld aberzhan (sideOf port) h (seen m))
+
+unfoldable pub waitPut : Module → Card → Module
+waitPut m c = kept (withMeter aberzhan (waitsFor core c (seenMeter (m .meter))) (seen m))
+
+unfoldable pub editedAt : Module → ℤ → Desked → Stepped
+editedAt m port did = record { answer = did .answer; after = deskPut m port (did .after) }

@@ -1,0 +1,52 @@
+-- What stands at the two ports: desks and holds, as the ports of crate `steps`; and with them the module, whose steps are that crate's `step`.
+use Prim.Native.Nat.{ℕ}
+use mathlib.Core.Bool.{Bool, _&&_, cond}
+use mathlib.Core.Option.{Option, none}
+use lib.IntN.{ℤ, pos, negsuc}
+use lib.Signed.{leZ, ltZ}
+use Rattle.steps.specs.Port.{Port, port0, port1, portOf}
+use Rattle.steps.specs.Parts.{Parts}
+use Rattle.steps.specs.Gauge.{Ports, Meter, partsOf}
+use Rattle.card.specs.declared.Card.{Card}
+use Rattle.interval.specs.declared.addresses.ByteAddr.{ByteAddr}
+use Rattle.meter.specs.Core.{core}
+use Rattle.aberzhan.specs.declared.desks.Desk.{Desk}
+use Rattle.aberzhan.specs.declared.holds.Held.{Held}
+use Rattle.aberzhan.specs.Desks.{Edit, shutDesk, edited, finished, discarded}
+use Rattle.aberzhan.specs.Holds.{Value, nothingHeld, copied, told}
+use Rattle.aberzhan.specs.Reading.{look, nothing-refuses}
+
+-- there is one kind of hold
+abbrev pub ports : Ports (Meter core) Card
+ports = record {
+  Desk = Desk;
+  Edit = Edit;
+  Held = Held;
+  HoldKind = Unit {0};
+  Address = ByteAddr;
+  Value = Value;
+  shut = shutDesk;
+  edited = edited;
+  finished = finished;
+  discarded = discarded;
+  unheld = nothingHeld;
+  copy = λ k m. copied (m .work);
+  told = λ k h. told h;
+  look = look;
+  unheld-refuses = nothing-refuses;
+}
+
+abbrev pub aberzhan : Parts
+aberzhan = partsOf core ports
+
+-- "Ports are 0 and 1": 8 for any other number
+unfoldable pub portAt : ℤ → Option Port
+portAt (pos n) = portOf n
+portAt (negsuc n) = none
+
+unfoldable pub isPort : ℤ → Bool
+isPort p = leZ (pos 0) p && leZ p (pos 1)
+
+-- which of the two a number names that is 0 or 1
+unfoldable pub sideOf : ℤ → Port
+sideOf p = cond (ltZ p (pos 1)) port0 port1
