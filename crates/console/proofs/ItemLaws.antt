@@ -16,12 +16,12 @@ use borrow.Author.Tests.{leb-true}
 use Rattle.console.specs.declared.items.Next.{Next}
 use Rattle.console.specs.declared.items.Next.the-variants as next
 use Rattle.console.specs.declared.items.Row.{Row}
-use Rattle.console.specs.declared.number.Number.{Number}
-use Rattle.console.specs.declared.number.Number.the-variants as number
-use Rattle.console.specs.Texts.{beginsWith, itemLength}
+use Rattle.console.specs.declared.numerals.Number.{Number}
+use Rattle.console.specs.declared.numerals.Number.the-variants as number
+use Rattle.console.specs.Texts.{beginsWith, lengthTo}
 use Rattle.console.specs.Numbers.{valueOf}
 use Rattle.console.specs.Items.{numbered, nextOf, sampled, sampleOf, Numbers, none, before, rowOf, Filled}
-use Rattle.console.proofs.TextLaws.{and-left, begins-within, item-within}
+use Rattle.console.proofs.TextLaws.{and-left, begins-within, to-within}
 
 -- ---- a number takes no more bytes than there are
 numbered-bytes : (v : Number) (b : ℕ) (x : ℤ) (n : ℕ) → numbered v b ≡ next.Number x n → n ≡ b
@@ -32,8 +32,8 @@ pub next-within : (t : List ℕ) (x : ℤ) (n : ℕ) → nextOf t ≡ next.Numbe
 unfolding nextOf
 next-within t x n e = by (beginsWith (32 ∷ []) t) refl e
   where
-    by : (s : Bool) → beginsWith (32 ∷ []) t ≡ s → cond s (numbered (valueOf (take (itemLength (drop 1 t)) (drop 1 t))) (itemLength (drop 1 t) + 1)) next.Not ≡ next.Number x n → n ≤ length t
-    by true s e = omega (arith, numbered-bytes (valueOf (take (itemLength (drop 1 t)) (drop 1 t))) (itemLength (drop 1 t) + 1) x n e, item-within (drop 1 t), length-drop 1 t, begins-within (32 ∷ []) t s)
+    by : (s : Bool) → beginsWith (32 ∷ []) t ≡ s → cond s (numbered (valueOf (take (lengthTo 32 (drop 1 t)) (drop 1 t))) (lengthTo 32 (drop 1 t) + 1)) next.Not ≡ next.Number x n → n ≤ length t
+    by true s e = omega (arith, numbered-bytes (valueOf (take (lengthTo 32 (drop 1 t)) (drop 1 t))) (lengthTo 32 (drop 1 t) + 1) x n e, to-within 32 (drop 1 t), length-drop 1 t, begins-within (32 ∷ []) t s)
     by false s e = let z : _≡_ {A = ℕ} 0 1 = cc in absurd (omega arith)
 
 -- ---- a sample is a number, and one within 32 bits

@@ -14,7 +14,7 @@ use mir.Syntax.{w64}
 use mir.Val.{SFits, toZ}
 use mir.Facts.{toZ-pos}
 use borrow.Author.Tests.{lt-ltb, le-ltb, lt-leb}
-use Rattle.console.specs.declared.number.Worth.the-variants as worth
+use Rattle.console.specs.declared.numerals.Worth.the-variants as worth
 use Rattle.console.specs.Numbers.{digitOf, worthBehind, upTo, digitsOf}
 
 -- ---- products

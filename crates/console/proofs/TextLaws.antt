@@ -1,4 +1,4 @@
--- A turn of a loop over a text, and its end, for a word that it begins with and for the length of its first item.
+-- A turn of a loop over a text, and its end, for a word that it begins with and for the way to a byte.
 use Prim.Native.Nat.{ℕ, suc, _+_, _-_, _≤_, _<_, suc-le-suc}
 use mathlib.Core.Path.{_≡_, refl}
 use mathlib.Core.Bool.{Bool, true, false, cond, _&&_, false≢true}
@@ -9,7 +9,7 @@ use lib.Dec.{eqb}
 use lib.ListN.{length, take, drop, getD, length-drop, drop-of-length-le}
 use lib.Seq.{drop-cons, take-all}
 use borrow.Author.Tests.{eq-eqb, ne-eqb}
-use Rattle.console.specs.Texts.{beginsWith, itemLength}
+use Rattle.console.specs.Texts.{beginsWith, lengthTo}
 
 module _ (w t : List ℕ) (k : ℕ) (h : k < length w) (g : k < length t) where
   begins-turn : beginsWith (drop k w) (drop k t) ≡ (eqb (getD t k 0) (getD w k 0) && beginsWith (drop (k + 1) w) (drop (k + 1) t))
@@ -38,27 +38,27 @@ pub begins-end : (w t : List ℕ) (k : ℕ) → length w ≤ k → beginsWith (d
 unfolding beginsWith
 begins-end w t k h = rw (drop-of-length-le w) refl
 
-module _ (t : List ℕ) (k : ℕ) (h : k < length t) where
-  item-turn : itemLength (drop k t) ≡ cond (eqb (getD t k 0) 32) 0 (suc (itemLength (drop (k + 1) t)))
-  unfolding itemLength
-  item-turn = rw (drop-cons t k 0, add-one) refl
+module _ (stop : ℕ) (t : List ℕ) (k : ℕ) (h : k < length t) where
+  to-turn : lengthTo stop (drop k t) ≡ cond (eqb (getD t k 0) stop) 0 (suc (lengthTo stop (drop (k + 1) t)))
+  unfolding lengthTo
+  to-turn = rw (drop-cons t k 0, add-one) refl
 
-  pub item-space : getD t k 0 ≡ 32 → itemLength (drop k t) ≡ 0
-  item-space e = rw (item-turn, eq-eqb (getD t k 0) 32 e) refl
+  pub to-here : getD t k 0 ≡ stop → lengthTo stop (drop k t) ≡ 0
+  to-here e = rw (to-turn, eq-eqb (getD t k 0) stop e) refl
 
-  pub item-more : (getD t k 0 ≡ 32 → ⊥) → itemLength (drop k t) ≡ suc (itemLength (drop (k + 1) t))
-  item-more e = rw (item-turn, ne-eqb (getD t k 0) 32 e) refl
+  pub to-later : (getD t k 0 ≡ stop → ⊥) → lengthTo stop (drop k t) ≡ suc (lengthTo stop (drop (k + 1) t))
+  to-later e = rw (to-turn, ne-eqb (getD t k 0) stop e) refl
 
-pub item-end : (t : List ℕ) (k : ℕ) → length t ≤ k → itemLength (drop k t) ≡ 0
-unfolding itemLength
-item-end t k h = rw (drop-of-length-le t) refl
+pub to-end : (stop : ℕ) (t : List ℕ) (k : ℕ) → length t ≤ k → lengthTo stop (drop k t) ≡ 0
+unfolding lengthTo
+to-end stop t k h = rw (drop-of-length-le t) refl
 
-pub item-within : (t : List ℕ) → itemLength t ≤ length t
-unfolding itemLength
-item-within [] = omega arith
-item-within (c ∷ cs) = by (item-within cs) (eqb c 32)
+pub to-within : (stop : ℕ) (t : List ℕ) → lengthTo stop t ≤ length t
+unfolding lengthTo
+to-within stop [] = omega arith
+to-within stop (c ∷ cs) = by (to-within stop cs) (eqb c stop)
   where
-    by : itemLength cs ≤ length cs → (b : Bool) → cond b 0 (suc (itemLength cs)) ≤ suc (length cs)
+    by : lengthTo stop cs ≤ length cs → (b : Bool) → cond b 0 (suc (lengthTo stop cs)) ≤ suc (length cs)
     by h true = omega arith
     by h false = omega arith
 

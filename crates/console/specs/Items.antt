@@ -6,12 +6,12 @@ use mathlib.Core.List.{List, [], _∷_}
 use lib.IntN.{ℤ, pos, negsuc}
 use lib.Signed.{leZ}
 use lib.ListN.{length, take, drop}
-use Rattle.console.specs.declared.number.Number.{Number}
-use Rattle.console.specs.declared.number.Number.the-variants as number
+use Rattle.console.specs.declared.numerals.Number.{Number}
+use Rattle.console.specs.declared.numerals.Number.the-variants as number
 use Rattle.console.specs.declared.items.Next.{Next}
 use Rattle.console.specs.declared.items.Next.the-variants as next
 use Rattle.console.specs.declared.items.Row.{Row}
-use Rattle.console.specs.Texts.{beginsWith, itemLength}
+use Rattle.console.specs.Texts.{beginsWith, lengthTo}
 use Rattle.console.specs.Numbers.{valueOf}
 
 -- a number, and the bytes that it takes with its space
@@ -23,7 +23,7 @@ numbered number.Not n = next.Not
 unfoldable pub nextOf : List ℕ → Next
 nextOf text =
     let item = drop 1 text in
-    cond (beginsWith (32 ∷ []) text) (numbered (valueOf (take (itemLength item) item)) (itemLength item + 1))
+    cond (beginsWith (32 ∷ []) text) (numbered (valueOf (take (lengthTo 32 item) item)) (lengthTo 32 item + 1))
     next.Not
 
 -- a number from -2^31 to 2^31 - 1

@@ -5,10 +5,10 @@ use mathlib.Core.List.{List, [], _∷_}
 use lib.Dec.{leb, ltb}
 use lib.IntN.{pos, negℤ}
 use lib.ListN.{drop}
-use Rattle.console.specs.declared.number.Worth.{Worth}
-use Rattle.console.specs.declared.number.Worth.the-variants as worth
-use Rattle.console.specs.declared.number.Number.{Number}
-use Rattle.console.specs.declared.number.Number.the-variants as number
+use Rattle.console.specs.declared.numerals.Worth.{Worth}
+use Rattle.console.specs.declared.numerals.Worth.the-variants as worth
+use Rattle.console.specs.declared.numerals.Number.{Number}
+use Rattle.console.specs.declared.numerals.Number.the-variants as number
 use Rattle.console.specs.Texts.{beginsWith}
 
 -- what a byte is worth as a digit: `0` to `9`, `A` to `F` and `a` to `f`; 16 if it is none

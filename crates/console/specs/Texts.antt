@@ -10,7 +10,7 @@ beginsWith [] text = true
 beginsWith (w ∷ ws) [] = false
 beginsWith (w ∷ ws) (c ∷ cs) = eqb c w && beginsWith ws cs
 
--- how long the item is that a text begins with: up to a space (byte 32) or the end
-unfoldable pub itemLength : List ℕ → ℕ
-itemLength [] = 0
-itemLength (c ∷ cs) = cond (eqb c 32) 0 (suc (itemLength cs))
+-- how far it is to a byte, such as the space (32) that ends an item; without one, to the end
+unfoldable pub lengthTo : ℕ → List ℕ → ℕ
+lengthTo stop [] = 0
+lengthTo stop (c ∷ cs) = cond (eqb c stop) 0 (suc (lengthTo stop cs))

@@ -2,10 +2,10 @@
 ghost use mathlib.Core.Path.{_≡_};
 ghost use lib.ListN.{length};
 ghost use Rattle.console.specs.Items.{nextOf, sampleOf, rowOf, Filled};
-use super::number::Number;
-use super::number::value;
+use super::numerals::Number;
+use super::numerals::value;
 use super::texts::begins;
-use super::texts::item_length;
+use super::texts::length_to;
 
 // What a text begins with: a space and a number, which take so many bytes; or not.
 pub enum Next {
@@ -24,7 +24,7 @@ pub fn next_number(text: &[u8]) -> Next
 {
     if begins(text, b" ") {
         let item = &text[1..];
-        let n = item_length(item);
+        let n = length_to(b' ', item);
         match value(&item[..n]) {
             Number::Is(x) => Next::Number(x, n + 1),
             Number::Not => Next::Not,

@@ -1,6 +1,6 @@
 // The console: a step a line on standard input, an answer a line on standard output.
 mod items;
-mod number;
+mod numerals;
 mod texts;
 mod words;
 

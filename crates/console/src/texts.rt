@@ -2,7 +2,7 @@
 ghost use mathlib.Core.Path.{_≡_};
 ghost use Prim.Native.Nat.{_≤_};
 ghost use lib.ListN.{length};
-ghost use Rattle.console.specs.Texts.{beginsWith, itemLength};
+ghost use Rattle.console.specs.Texts.{beginsWith, lengthTo};
 
 // Whether a text begins with a word.
 pub fn begins(text: &[u8], word: &[u8]) -> bool
@@ -21,13 +21,13 @@ pub fn begins(text: &[u8], word: &[u8]) -> bool
     true
 }
 
-// How long the item is that a text begins with: up to a space or the end.
-pub fn item_length(text: &[u8]) -> usize
-    ensures { λ r. ⌜ r ≡ itemLength (now (text .entry)) ⌝ }
+// How far it is in a text to a byte: a space that ends an item, a line feed that ends a line. Without one, to the end.
+pub fn length_to(stop: u8, text: &[u8]) -> usize
+    ensures { λ r. ⌜ r ≡ lengthTo stop (now (text .entry)) ⌝ }
 {
     let mut k = 0;
     while k < text.len() {
-        if text[k] == b' ' {
+        if text[k] == stop {
             return k;
         }
         k += 1;

@@ -8,10 +8,10 @@ use lib.Seq.{length-take-le}
 use mir.Syntax.{w64}
 use mir.Val.{SFits}
 use mir.Facts.{toZ-ofZ}
-use Rattle.console.specs.Texts.{beginsWith, itemLength}
+use Rattle.console.specs.Texts.{beginsWith, lengthTo}
 use Rattle.console.specs.Numbers.{valueOf}
 use Rattle.console.specs.Items.{nextOf}
-use Rattle.console.proofs.TextLaws.{begins-within, item-within, rest-of}
+use Rattle.console.proofs.TextLaws.{begins-within, to-within, rest-of}
 use borrow.Author.Needs.{needs}
 use Rattle.console.proofs.items.next_number.Statement.{statement}
 use Rattle.console.proofs.items.next_number.Tie as tie
@@ -31,20 +31,20 @@ part-item-start c = begins-within _ _ (sym (c .before .begins .ensures) ∙ c .i
 part-item-end : tie.Need-part-item-end
 part-item-end c = search needs
 
-item-length-requires : tie.Need-item-length-requires
-item-length-requires c κs = search needs
+length-to-requires : tie.Need-length-to-requires
+length-to-requires c κs = search needs
 
 space : (c : tie.Then1) → beginsWith (32 ∷ []) (c .before .before .before .before .args .text .now) ≡ true
 space c = sym (c .before .begins .ensures) ∙ c .if1 .taken
 
 -- the item behind the space
-sized : (c : tie.After-item-length) → c .item-length .result ≡ itemLength (drop 1 (c .before .before .before .before .before .before .args .text .now))
-sized c = c .item-length .ensures ∙ ap itemLength (rest-of 1 (c .before .before .before .before .before .before .args .text .now))
+sized : (c : tie.After-length-to) → c .length-to .result ≡ lengthTo 32 (drop 1 (c .before .before .before .before .before .before .args .text .now))
+sized c = c .length-to .ensures ∙ ap (lengthTo 32) (rest-of 1 (c .before .before .before .before .before .before .args .text .now))
 
 slice-aggregate-value : tie.Need-slice-aggregate-value
 slice-aggregate-value c =
     let t = c .before .before .before .before .before .before .before .args .text .now in
-    rw (rest-of 1 t) (sym (length-take-le _ _ (rw (sized (c .before)) (item-within (drop 1 t)))))
+    rw (rest-of 1 t) (sym (length-take-le _ _ (rw (sized (c .before)) (to-within 32 (drop 1 t)))))
 
 value-requires : tie.Need-value-requires
 value-requires c κs = search needs
@@ -55,11 +55,11 @@ enum-known-x c = search needs
 -- what it is worth
 read : (c : tie.After-value) →
     let item = drop 1 (c .before .before .before .before .before .before .before .before .args .text .now) in
-    c .value .result ≡ valueOf (take (itemLength item) item)
+    c .value .result ≡ valueOf (take (lengthTo 32 item) item)
 read c = c .value .ensures ∙ rw (rest-of 1 (c .before .before .before .before .before .before .before .before .args .text .now), sized (c .before .before)) refl
 
 add-t17 : tie.Need-add-t17
-add-t17 c = omega (arith, sized (c .before .before .before .before .before), item-within (drop 1 (c .before .before .before .before .before .before .before .before .before .before .before .args .text .now)), length-drop 1 (c .before .before .before .before .before .before .before .before .before .before .before .args .text .now))
+add-t17 c = omega (arith, sized (c .before .before .before .before .before), to-within 32 (drop 1 (c .before .before .before .before .before .before .before .before .before .before .before .args .text .now)), length-drop 1 (c .before .before .before .before .before .before .before .before .before .before .before .args .text .now))
 
 enum-told : tie.Need-enum-told
 enum-told c = search needs
@@ -88,7 +88,7 @@ next-number-spec =
     sub-item
     part-item-start
     part-item-end
-    item-length-requires
+    length-to-requires
     slice-aggregate-value
     value-requires
     enum-known-x

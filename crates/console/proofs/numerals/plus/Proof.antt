@@ -2,8 +2,8 @@
 use borrow.Author.Tests.{lt-ltb, le-ltb}
 use Rattle.console.specs.Numbers.{positive}
 use borrow.Author.Needs.{needs}
-use Rattle.console.proofs.number.plus.Statement.{statement}
-use Rattle.console.proofs.number.plus.Tie as tie
+use Rattle.console.proofs.numerals.plus.Statement.{statement}
+use Rattle.console.proofs.numerals.plus.Tie as tie
 
 enum-known-s : tie.Need-enum-known-s
 enum-known-s c = search needs

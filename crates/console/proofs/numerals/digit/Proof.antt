@@ -3,8 +3,8 @@ use borrow.Author.Tests.{le-leb, lt-leb}
 use native.Mathlib.Omega.{arith}
 use Rattle.console.specs.Numbers.{digitOf}
 use borrow.Author.Needs.{needs}
-use Rattle.console.proofs.number.digit.Statement.{statement}
-use Rattle.console.proofs.number.digit.Tie as tie
+use Rattle.console.proofs.numerals.digit.Statement.{statement}
+use Rattle.console.proofs.numerals.digit.Tie as tie
 
 returns : tie.Need-returns
 unfolding digitOf

@@ -6,8 +6,8 @@ use lib.ListN.{length, drop}
 use borrow.Author.Tests.{le-leb, lt-leb}
 use Rattle.console.specs.Numbers.{worthBehind, upTo, digitsOf}
 use Rattle.console.proofs.NumberLaws.{within, beyond, one-more, no-digit, no-more, too-high, no-digits, some-digits}
-use Rattle.console.proofs.number.digits.Statement.{statement}
-use Rattle.console.proofs.number.digits.Tie as tie
+use Rattle.console.proofs.numerals.digits.Statement.{statement}
+use Rattle.console.proofs.numerals.digits.Tie as tie
 
 abbrev Inv-loop : tie.InvT-loop
 Inv-loop text base most worth₀ k₀ worth k =

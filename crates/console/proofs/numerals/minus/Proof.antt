@@ -6,8 +6,8 @@ use mir.Facts.{toZ-ofZ}
 use Rattle.console.specs.Numbers.{negative}
 use Rattle.console.proofs.NumberLaws.{minus-is, minus-fits}
 use borrow.Author.Needs.{needs}
-use Rattle.console.proofs.number.minus.Statement.{statement}
-use Rattle.console.proofs.number.minus.Tie as tie
+use Rattle.console.proofs.numerals.minus.Statement.{statement}
+use Rattle.console.proofs.numerals.minus.Tie as tie
 
 enum-known-s : tie.Need-enum-known-s
 enum-known-s c = search needs

@@ -3,8 +3,8 @@ use mathlib.Core.Path.{sym, ap, _∙_}
 use Rattle.console.specs.Numbers.{digitsOf, positive, negative, valueOf}
 use Rattle.console.proofs.TextLaws.{begins-within, rest-of}
 use borrow.Author.Needs.{needs}
-use Rattle.console.proofs.number.value.Statement.{statement}
-use Rattle.console.proofs.number.value.Tie as tie
+use Rattle.console.proofs.numerals.value.Statement.{statement}
+use Rattle.console.proofs.numerals.value.Tie as tie
 
 slice-aggregate-begins : tie.Need-slice-aggregate-begins
 slice-aggregate-begins c = search needs
