@@ -1,5 +1,5 @@
 -- Taking numbers one after another into a buffer. What was taken and the row behind it make up the whole row.
-use Prim.Native.Nat.{ℕ, zero, suc, _+_, _-_, _^_, _≤_, _<_}
+use Prim.Native.Nat.{ℕ, zero, suc, _+_, _-_, _^_, _≤_, _<_, suc-le-suc}
 use mathlib.Core.Path.{_≡_, refl, sym, ap, _∙_}
 use mathlib.Core.Bool.{Bool, true, false, cond, _&&_}
 use mathlib.Core.List.{List, [], _∷_, _++_, append-assoc, append-nil}
@@ -112,3 +112,22 @@ pub another : (one : List ℕ → Next) (n : ℕ) (t : List ℕ) → one t ≡ n
 unfolding rowOf
 another one zero t e = refl
 another one (suc n) t e = rw e refl
+
+-- ---- a row has no more numbers than it may, and takes no more bytes than there are
+pub row-count : (one : List ℕ → Next) (n : ℕ) (t : List ℕ) → length (rowOf one n t .values) ≤ n
+unfolding rowOf
+row-count one zero t = omega arith
+row-count one (suc n) t = by (λ (k : ℕ). row-count one n (drop k t)) (one t)
+  where
+    by : ((k : ℕ) → length (rowOf one n (drop k t) .values) ≤ n) → (m : Next) → length (before m (λ k. rowOf one n (drop k t)) .values) ≤ suc n
+    by h (next.Number x k) = suc-le-suc (h k)
+    by h next.Not = omega arith
+
+pub row-within : (one : List ℕ → Next) → ((t : List ℕ) (x : ℤ) (n : ℕ) → one t ≡ next.Number x n → n ≤ length t) → (n : ℕ) (t : List ℕ) → rowOf one n t .bytes ≤ length t
+unfolding rowOf
+row-within one w zero t = omega arith
+row-within one w (suc n) t = by (λ (k : ℕ). row-within one w n (drop k t)) (one t) refl
+  where
+    by : ((k : ℕ) → rowOf one n (drop k t) .bytes ≤ length (drop k t)) → (m : Next) → one t ≡ m → before m (λ k. rowOf one n (drop k t)) .bytes ≤ length t
+    by h (next.Number x k) e = omega (arith, h k, length-drop k t, w t x k e)
+    by h next.Not e = omega arith

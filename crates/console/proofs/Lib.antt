@@ -3,3 +3,4 @@ pub mod TextLaws
 pub mod NumberLaws
 pub mod ItemLaws
 pub mod WordLaws
+pub mod TurnLaws

@@ -3,3 +3,5 @@ pub mod Texts
 pub mod Numbers
 pub mod Items
 pub mod Words
+pub mod Turns
+pub mod Session
