@@ -85,7 +85,14 @@ fn end_line(s: Session, line: &[u8], v: &mut [i32], i: &mut [i32], out: &mut [u8
 }
 
 // The bytes of one read: lines, and perhaps the beginning of another.
-fn take_part(s: Session, part: &[u8], line: &mut [u8], v: &mut [i32], i: &mut [i32], out: &mut [u8]) -> Session
+fn take_part(
+    s: Session,
+    part: &[u8],
+    line: &mut [u8],
+    v: &mut [i32],
+    i: &mut [i32],
+    out: &mut [u8],
+) -> Session
     requires { ⌜ Ready s (now line) (now out) ⌝ }
     ensures { λ r. ⌜ Ready r (now (line .exit)) (now (out .exit)) ⌝ }
 {
@@ -120,7 +127,14 @@ fn write_out(s: Session, out: &[u8]) -> Session
 }
 
 // One read. Its answers are written before the next, so that whoever types sees each answer.
-fn read_some(s: Session, chunk: &mut [u8], line: &mut [u8], v: &mut [i32], i: &mut [i32], out: &mut [u8]) -> More
+fn read_some(
+    s: Session,
+    chunk: &mut [u8],
+    line: &mut [u8],
+    v: &mut [i32],
+    i: &mut [i32],
+    out: &mut [u8],
+) -> More
     requires { ⌜ Ready s (now line) (now out) ⌝ }
     ensures { λ r. ⌜ Ready (r .session) (now (line .exit)) (now (out .exit)) ⌝ }
 {

@@ -1,57 +1,49 @@
+-- `keep` keeps within the line's buffer.
+use Prim.Native.Nat.{_-_, _≤_}
+use mathlib.Core.Path.{_≡_, refl}
+use native.Mathlib.Omega.{arith}
+use lib.ListN.{length, length-set}
 use Rattle.console.proofs.input.keep.Statement.{statement}
 use Rattle.console.proofs.input.keep.Tie as tie
-use Rattle.console.proofs.input.keep.Reads as reads
-use Rattle.console.proofs.input.keep.Lts as lts
 
 abbrev Inv-loop : tie.InvT-loop
-Inv-loop line₀ kept part at₀ k₀ line at k = ?
+Inv-loop line₀ kept part at₀ k₀ line at k = (at ≤ length line) × (length line ≡ length line₀)
 
 abbrev μ-loop : tie.MeasureT-loop
-μ-loop line₀ kept part at₀ k₀ line at k = ?
+μ-loop line₀ kept part at₀ k₀ line at k = length part - k
 
--- src/input.rt:48:5
 loop-holds : tie.Need-loop-holds Inv-loop μ-loop
-loop-holds c = ?
+loop-holds c = (c .pre, refl)
 
--- src/input.rt:50:13
 same-length : tie.Need-same-length Inv-loop μ-loop
-same-length c = ?
+same-length c = c .before .before .loop .inv .1
 
--- src/input.rt:50:13
 returns : tie.Need-returns Inv-loop μ-loop
-returns c = ?
+returns c = c .before .before .loop .inv .0
 
--- src/input.rt:52:20
 shared-slice-read-line : tie.Need-shared-slice-read-line Inv-loop μ-loop
-shared-slice-read-line c = ?
+shared-slice-read-line c = omega arith
 
--- src/input.rt:52:9
 slice-write-line : tie.Need-slice-write-line Inv-loop μ-loop
-slice-write-line c = ?
+slice-write-line c = omega arith
 
--- src/input.rt:53:9
 add-at : tie.Need-add-at Inv-loop μ-loop
-add-at c = ?
+add-at c = omega (arith, c .before .before .before .before .good)
 
--- src/input.rt:54:9
 add-k : tie.Need-add-k Inv-loop μ-loop
-add-k c = ?
+add-k c = omega (arith, c .before .before .before .before .good)
 
--- src/input.rt:48:5
 loop-less : tie.Need-loop-less Inv-loop μ-loop
-loop-less c = ?
+loop-less c = omega arith
 
--- src/input.rt:48:5
 loop-again : tie.Need-loop-again Inv-loop μ-loop
-loop-again c = ?
+loop-again c = (simp length-set (omega arith), simp length-set (c .before .before .before .loop .inv .1))
 
--- src/input.rt:42:1
 same-length-2 : tie.Need-same-length-2 Inv-loop μ-loop
-same-length-2 c = ?
+same-length-2 c = c .before .loop .inv .1
 
--- src/input.rt:42:1
 returns-2 : tie.Need-returns-2 Inv-loop μ-loop
-returns-2 c = ?
+returns-2 c = c .before .loop .inv .0
 
 pub keep-spec : {M : Type 1} → statement M
 keep-spec =

@@ -1,81 +1,72 @@
+-- `run` reads to the end of the input.
+use borrow.Author.Needs.{needs}
+use mathlib.Core.Path.{_≡_, refl, _∙_}
+use native.Mathlib.Omega.{arith}
+use lib.ListN.{length}
+use Rattle.console.specs.Session.{Ready}
 use Rattle.console.proofs.input.run.Statement.{statement}
 use Rattle.console.proofs.input.run.Tie as tie
-use Rattle.console.proofs.input.run.Reads as reads
-use Rattle.console.proofs.input.run.Lts as lts
-use Rattle.console.proofs.input.begun.Reads as begun-reads
-use Rattle.console.proofs.input.end_line.Reads as end-line-reads
-use Rattle.console.proofs.input.read_some.Reads as read-some-reads
-use Rattle.console.proofs.input.write_out.Reads as write-out-reads
 
 abbrev Inv-loop : tie.InvT-loop
-Inv-loop chunk₀ line₀ v₀ i₀ out₀ s₀ turns₀ chunk line v i out s turns = ?
+Inv-loop chunk₀ line₀ v₀ i₀ out₀ s₀ turns₀ chunk line v i out s turns =
+    Ready s line out × (length chunk ≡ length chunk₀) × (length line ≡ length line₀) × (length v ≡ length v₀) × (length i ≡ length i₀) × (length out ≡ length out₀)
 
 abbrev μ-loop : tie.MeasureT-loop
-μ-loop chunk₀ line₀ v₀ i₀ out₀ s₀ turns₀ chunk line v i out s turns = ?
+μ-loop chunk₀ line₀ v₀ i₀ out₀ s₀ turns₀ chunk line v i out s turns = turns
 
--- src/input.rt:147:9
 begun-requires : tie.Need-begun-requires Inv-loop μ-loop
-begun-requires c κs = ?
+begun-requires c κs = tt
 
--- src/input.rt:149:5
 loop-holds : tie.Need-loop-holds Inv-loop μ-loop
-loop-holds c = ?
+loop-holds c = (record { kept = search needs; used = search needs; room = c .before .before .before .before .pre }, refl, refl, refl, refl, refl)
 
--- src/input.rt:150:13
 read-some-requires : tie.Need-read-some-requires Inv-loop μ-loop
-read-some-requires c κs = ?
+read-some-requires c κs = c .before .before .before .before .before .before .loop .inv .0
 
--- src/input.rt:154:13
 sub-turns : tie.Need-sub-turns Inv-loop μ-loop
-sub-turns c = ?
+sub-turns c = omega arith
 
--- src/input.rt:149:5
 loop-less : tie.Need-loop-less Inv-loop μ-loop
-loop-less c = ?
+loop-less c = omega arith
 
--- src/input.rt:149:5
 loop-again : tie.Need-loop-again Inv-loop μ-loop
-loop-again c = ?
+loop-again c =
+    let k = c .before .before .before .before .before .before .before .before .before .before .read-some .kept in
+    let i = c .before .before .before .before .before .before .before .before .before .before .before .before .before .before .before .before .before .loop .inv in
+    (c .before .before .before .before .before .before .before .before .before .before .read-some .ensures, k .1 .0 ∙ i .1, k .1 .1 .0 ∙ i .2, k .1 .1 .1 .0 ∙ i .3, k .1 .1 .1 .1 .0 ∙ i .4, k .1 .1 .1 .1 .1 .0 ∙ i .5)
 
--- src/input.rt:149:5
 loop-less-2 : tie.Need-loop-less-2 Inv-loop μ-loop
-loop-less-2 c = ?
+loop-less-2 c = omega arith
 
--- src/input.rt:149:5
 loop-again-2 : tie.Need-loop-again-2 Inv-loop μ-loop
-loop-again-2 c = ?
+loop-again-2 c =
+    let k = c .before .before .before .before .before .before .before .before .before .before .read-some .kept in
+    let i = c .before .before .before .before .before .before .before .before .before .before .before .before .before .before .before .before .before .loop .inv in
+    (c .before .before .before .before .before .before .before .before .before .before .read-some .ensures, k .1 .0 ∙ i .1, k .1 .1 .0 ∙ i .2, k .1 .1 .1 .0 ∙ i .3, k .1 .1 .1 .1 .0 ∙ i .4, k .1 .1 .1 .1 .1 .0 ∙ i .5)
 
--- src/input.rt:159:9
 end-line-requires : tie.Need-end-line-requires Inv-loop μ-loop
-end-line-requires c κs = ?
+end-line-requires c κs = c .before .before .before .before .before .loop .inv .0
 
--- src/input.rt:160:5
 write-out-requires : tie.Need-write-out-requires Inv-loop μ-loop
-write-out-requires c κs = ?
+write-out-requires c κs = search needs
 
--- src/input.rt:144:1
 same-length : tie.Need-same-length Inv-loop μ-loop
-same-length c = ?
+same-length c = c .before .before .before .before .before .before .before .before .before .before .before .before .loop .inv .1
 
--- src/input.rt:144:1
 same-length-2 : tie.Need-same-length-2 Inv-loop μ-loop
-same-length-2 c = ?
+same-length-2 c = c .before .before .before .before .before .before .before .before .before .before .before .before .loop .inv .2
 
--- src/input.rt:144:1
 same-length-3 : tie.Need-same-length-3 Inv-loop μ-loop
-same-length-3 c = ?
+same-length-3 c = c .before .before .before .before .before .before .end-line .kept .1 .1 .0 ∙ c .before .before .before .before .before .before .before .before .before .before .before .before .loop .inv .3
 
--- src/input.rt:144:1
 same-length-4 : tie.Need-same-length-4 Inv-loop μ-loop
-same-length-4 c = ?
+same-length-4 c = c .before .before .before .before .before .before .end-line .kept .1 .1 .1 .0 ∙ c .before .before .before .before .before .before .before .before .before .before .before .before .loop .inv .4
 
--- src/input.rt:144:1
 same-length-5 : tie.Need-same-length-5 Inv-loop μ-loop
-same-length-5 c = ?
+same-length-5 c = c .before .before .before .before .before .before .end-line .kept .1 .1 .1 .1 .0 ∙ c .before .before .before .before .before .before .before .before .before .before .before .before .loop .inv .5
 
--- src/input.rt:144:1
 returns : tie.Need-returns Inv-loop μ-loop
-returns c = ?
+returns c = tt
 
 pub run-spec : {M : Type 1} → statement M
 run-spec =

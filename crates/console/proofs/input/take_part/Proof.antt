@@ -1,100 +1,94 @@
+-- `take_part` goes from line feed to line feed.
+use borrow.Author.Needs.{needs}
+use Prim.Native.Nat.{_+_, _-_, _≤_}
+use mathlib.Core.Path.{_≡_, refl, ap, _∙_}
+use native.Mathlib.Omega.{arith}
+use lib.ListN.{length, drop, length-drop}
+use Rattle.console.specs.Texts.{lengthTo}
+use Rattle.console.specs.Session.{Ready}
+use Rattle.console.proofs.TextLaws.{to-within, rest-of}
 use Rattle.console.proofs.input.take_part.Statement.{statement}
 use Rattle.console.proofs.input.take_part.Tie as tie
-use Rattle.console.proofs.input.take_part.Reads as reads
-use Rattle.console.proofs.input.take_part.Lts as lts
-use Rattle.console.proofs.input.end_line.Reads as end-line-reads
-use Rattle.console.proofs.input.keep.Reads as keep-reads
-use Rattle.console.proofs.texts.length_to.Reads as length-to-reads
 
 abbrev Inv-loop : tie.InvT-loop
-Inv-loop part line₀ v₀ i₀ out₀ s₀ at₀ line v i out s at = ?
+Inv-loop part line₀ v₀ i₀ out₀ s₀ at₀ line v i out s at =
+    Ready s line out × (at ≤ length part) × (length line ≡ length line₀) × (length v ≡ length v₀) × (length i ≡ length i₀) × (length out ≡ length out₀)
 
 abbrev μ-loop : tie.MeasureT-loop
-μ-loop part line₀ v₀ i₀ out₀ s₀ at₀ line v i out s at = ?
+μ-loop part line₀ v₀ i₀ out₀ s₀ at₀ line v i out s at = length part - at
 
--- src/input.rt:94:5
 loop-holds : tie.Need-loop-holds Inv-loop μ-loop
-loop-holds c = ?
+loop-holds c = (c .before .before .before .pre, omega arith, refl, refl, refl, refl)
 
--- src/input.rt:95:34
 sub-length-to : tie.Need-sub-length-to Inv-loop μ-loop
-sub-length-to c = ?
+sub-length-to c = omega arith
 
--- src/input.rt:95:34
 part-length-to-start : tie.Need-part-length-to-start Inv-loop μ-loop
-part-length-to-start c = ?
+part-length-to-start c = omega arith
 
--- src/input.rt:95:34
 part-length-to-end : tie.Need-part-length-to-end Inv-loop μ-loop
-part-length-to-end c = ?
+part-length-to-end c = search needs
 
--- src/input.rt:95:13
 length-to-requires : tie.Need-length-to-requires Inv-loop μ-loop
-length-to-requires c κs = ?
+length-to-requires c κs = tt
 
--- src/input.rt:96:17
+-- the line's end is within the part
+reach : (c : tie.After-length-to Inv-loop μ-loop) → c .before .before .before .loop .at + c .length-to .result ≤ length (c .before .before .before .before .before .before .before .args .part .now)
+reach c =
+    let part = c .before .before .before .before .before .before .before .args .part .now in
+    let at = c .before .before .before .loop .at in
+    omega (arith, c .length-to .ensures ∙ ap (lengthTo 10) (rest-of at part), to-within 10 (drop at part), length-drop at part, c .before .before .before .loop .inv .1)
+
 add-e : tie.Need-add-e Inv-loop μ-loop
-add-e c = ?
+add-e c = omega (arith, reach c, c .before .before .before .before .before .before .before .good)
 
--- src/input.rt:97:39
 sub-keep : tie.Need-sub-keep Inv-loop μ-loop
-sub-keep c = ?
+sub-keep c = omega arith
 
--- src/input.rt:97:39
 part-keep-start : tie.Need-part-keep-start Inv-loop μ-loop
-part-keep-start c = ?
+part-keep-start c = omega arith
 
--- src/input.rt:97:39
 part-keep-end : tie.Need-part-keep-end Inv-loop μ-loop
-part-keep-end c = ?
+part-keep-end c = reach (c .before)
 
--- src/input.rt:97:13
 keep-requires : tie.Need-keep-requires Inv-loop μ-loop
-keep-requires c κs = ?
+keep-requires c κs = c .before .before .before .before .before .loop .inv .0 .kept
 
--- src/input.rt:101:13
 end-line-requires : tie.Need-end-line-requires Inv-loop μ-loop
-end-line-requires c κs = ?
+end-line-requires c κs = record { kept = c .before .before .before .before .before .before .before .keep .ensures; used = c .before .before .before .before .before .before .before .before .before .before .before .before .before .loop .inv .0 .used; room = c .before .before .before .before .before .before .before .before .before .before .before .before .before .loop .inv .0 .room }
 
--- src/input.rt:102:13
 add-at : tie.Need-add-at Inv-loop μ-loop
-add-at c = ?
+add-at c = omega (arith, c .before .before .before .before .before .before .before .before .before .if1 .taken, c .before .before .before .before .before .before .before .before .before .before .before .before .before .before .before .before .before .before .before .before .before .before .good)
 
--- src/input.rt:94:5
 loop-less : tie.Need-loop-less Inv-loop μ-loop
-loop-less c = ?
+loop-less c = omega arith
 
--- src/input.rt:94:5
 loop-again : tie.Need-loop-again Inv-loop μ-loop
-loop-again c = ?
+loop-again c =
+    let k = c .before .before .before .before .end-line .kept in
+    let i = c .before .before .before .before .before .before .before .before .before .before .before .before .before .before .before .before .before .before .loop .inv in
+    (c .before .before .before .before .end-line .ensures, omega arith, c .before .before .before .before .before .before .before .before .before .before .before .before .keep .kept .0 ∙ i .2, k .1 .1 .0 ∙ i .3, k .1 .1 .1 .0 ∙ i .4, k .1 .1 .1 .1 .0 ∙ i .5)
 
--- src/input.rt:94:5
 loop-less-2 : tie.Need-loop-less-2 Inv-loop μ-loop
-loop-less-2 c = ?
+loop-less-2 c = omega arith
 
--- src/input.rt:94:5
 loop-again-2 : tie.Need-loop-again-2 Inv-loop μ-loop
-loop-again-2 c = ?
+loop-again-2 c = (record { kept = c .before .before .before .keep .ensures; used = c .before .before .before .before .before .before .before .before .before .loop .inv .0 .used; room = c .before .before .before .before .before .before .before .before .before .loop .inv .0 .room }, reach (c .before .before .before .before .before .before), c .before .before .before .keep .kept .0 ∙ c .before .before .before .before .before .before .before .before .before .loop .inv .2, c .before .before .before .before .before .before .before .before .before .loop .inv .3, c .before .before .before .before .before .before .before .before .before .loop .inv .4, c .before .before .before .before .before .before .before .before .before .loop .inv .5)
 
--- src/input.rt:88:1
 same-length : tie.Need-same-length Inv-loop μ-loop
-same-length c = ?
+same-length c = c .before .loop .inv .2
 
--- src/input.rt:88:1
 same-length-2 : tie.Need-same-length-2 Inv-loop μ-loop
-same-length-2 c = ?
+same-length-2 c = c .before .loop .inv .3
 
--- src/input.rt:88:1
 same-length-3 : tie.Need-same-length-3 Inv-loop μ-loop
-same-length-3 c = ?
+same-length-3 c = c .before .loop .inv .4
 
--- src/input.rt:88:1
 same-length-4 : tie.Need-same-length-4 Inv-loop μ-loop
-same-length-4 c = ?
+same-length-4 c = c .before .loop .inv .5
 
--- src/input.rt:88:1
 returns : tie.Need-returns Inv-loop μ-loop
-returns c = ?
+returns c = c .before .loop .inv .0
 
 pub take-part-spec : {M : Type 1} → statement M
 take-part-spec =

@@ -1,54 +1,50 @@
+-- `put` keeps within the buffer, which is written out when it is full.
+use Prim.Native.Nat.{_-_, _≤_, _<_}
+use mathlib.Core.Path.{_≡_, refl}
+use mathlib.Core.Logic.{⊎-elim}
+use native.Mathlib.Omega.{arith}
+use lib.ListN.{length, length-set}
 use Rattle.console.proofs.output.put.Statement.{statement}
 use Rattle.console.proofs.output.put.Tie as tie
-use Rattle.console.proofs.output.put.Reads as reads
-use Rattle.console.proofs.output.put.Lts as lts
-use Rattle.io.proofs.write_all.Reads as write-all-reads
 
 abbrev Inv-loop : tie.InvT-loop
-Inv-loop out₀ used text at₀ k₀ out at k = ?
+Inv-loop out₀ used text at₀ k₀ out at k = (at ≤ length out) × (length out ≡ length out₀)
 
 abbrev μ-loop : tie.MeasureT-loop
-μ-loop out₀ used text at₀ k₀ out at k = ?
+μ-loop out₀ used text at₀ k₀ out at k = length text - k
 
--- src/output.rt:16:5
 loop-holds : tie.Need-loop-holds Inv-loop μ-loop
-loop-holds c = ?
+loop-holds c = (omega arith, refl)
 
--- src/output.rt:18:13
 write-all-requires : tie.Need-write-all-requires Inv-loop μ-loop
-write-all-requires c κs = ?
+write-all-requires c κs = tt
 
--- src/output.rt:21:19
 shared-slice-read-out : tie.Need-shared-slice-read-out Inv-loop μ-loop
-shared-slice-read-out c = ?
+shared-slice-read-out c = omega arith
 
--- src/output.rt:21:9
+room : (c : tie.Joined1 Inv-loop μ-loop) → c .if1 .at < length (c .before .before .loop .out)
+room c = ⊎-elim (λ w. omega (arith, c .before .before .before .before .before .pre)) (λ w. omega arith) (c .if1 .came)
+
 slice-write-out : tie.Need-slice-write-out Inv-loop μ-loop
-slice-write-out c = ?
+slice-write-out c = room (c .before)
 
--- src/output.rt:22:9
 add-at : tie.Need-add-at Inv-loop μ-loop
-add-at c = ?
+add-at c = omega (arith, room (c .before .before), c .before .before .before .before .before .before .before .good)
 
--- src/output.rt:23:9
 add-k : tie.Need-add-k Inv-loop μ-loop
-add-k c = ?
+add-k c = omega (arith, c .before .before .before .before .before .before .before .good)
 
--- src/output.rt:16:5
 loop-less : tie.Need-loop-less Inv-loop μ-loop
-loop-less c = ?
+loop-less c = omega arith
 
--- src/output.rt:16:5
 loop-again : tie.Need-loop-again Inv-loop μ-loop
-loop-again c = ?
+loop-again c = (simp length-set (omega (arith, room (c .before .before))), simp length-set (c .before .before .before .before .loop .inv .1))
 
--- src/output.rt:10:1
 same-length : tie.Need-same-length Inv-loop μ-loop
-same-length c = ?
+same-length c = c .before .loop .inv .1
 
--- src/output.rt:10:1
 returns : tie.Need-returns Inv-loop μ-loop
-returns c = ?
+returns c = c .before .loop .inv .0
 
 pub put-spec : {M : Type 1} → statement M
 put-spec =

@@ -1,35 +1,37 @@
+-- `put_serial` puts the digits that a serial has.
+use mathlib.Core.Path.{_≡_, sym}
+use Prim.Native.Nat.{_≤_}
+use native.Mathlib.Omega.{arith}
+use lib.ListN.{length}
+use lib.Seq.{length-take-le}
 use borrow.Author.Needs.{needs}
 use Rattle.console.proofs.output.put_serial.Statement.{statement}
 use Rattle.console.proofs.output.put_serial.Tie as tie
-use Rattle.console.proofs.output.put_serial.Reads as reads
-use Rattle.console.proofs.output.put_serial.Lts as lts
-use Rattle.console.proofs.output.put.Reads as put-reads
 
--- src/output.rt:53:13
 cast-n : tie.Need-cast-n
 cast-n c = search needs
 
--- src/output.rt:55:31
+twelve : (c : tie.Start) → length (c .args .s .digits) ≡ 12
+twelve c = search needs
+
+within : (c : tie.Then1) → c .before .before .before .before .args .s .len ≤ length (c .before .before .before .before .args .s .digits)
+within c = omega (arith, twelve (c .before .before .before .before))
+
 array-share-prefix-digits : tie.Need-array-share-prefix-digits
-array-share-prefix-digits c = ?
+array-share-prefix-digits c = within (c .before)
 
--- src/output.rt:55:31
 slice-aggregate-put : tie.Need-slice-aggregate-put
-slice-aggregate-put c = ?
+slice-aggregate-put c = sym (length-take-le _ _ (within (c .before .before)))
 
--- src/output.rt:55:9
 put-requires : tie.Need-put-requires
 put-requires c κs = search needs
 
--- src/output.rt:55:9
 same-length : tie.Need-same-length
 same-length c = search needs
 
--- src/output.rt:55:9
 returns : tie.Need-returns
 returns c = search needs
 
--- src/output.rt:48:1
 returns-2 : tie.Need-returns-2
 returns-2 c = search needs
 

@@ -104,24 +104,24 @@ returns : tie.Need-returns
 returns c = simp (c .before .enum-told .given .1, c .started .ensures)
 
 returns-2 : tie.Need-returns-2
-returns-2 c = 
+returns-2 c =
     let x = c .before .before .before .before .before .before .before .args .t3 in
     simp (c .before .before .before .before .before .enum-told2 .given .1, c .stepped .ensures, c .before .write .ensures, as-read x 0 (c .before .before .before .before .write-arg .given), as-read x 1 (c .before .before .before .write-arg2 .given), as-read x 2 (c .before .before .write-arg3 .given))
 
 returns-3 : tie.Need-returns-3
-returns-3 c = 
+returns-3 c =
     simp (c .before .before .before .enum-told3 .given .1, c .stepped2 .ensures, c .before .commit .ensures, as-read (c .before .before .before .before .before .args .t3) 0 (c .before .before .commit-arg .given))
 
 returns-4 : tie.Need-returns-4
-returns-4 c = 
+returns-4 c =
     simp (c .before .before .before .enum-told4 .given .1, c .stepped3 .ensures, c .before .drop .ensures, as-read (c .before .before .before .before .before .args .t3) 0 (c .before .before .drop-arg .given))
 
 returns-5 : tie.Need-returns-5
-returns-5 c = 
+returns-5 c =
     simp (c .before .before .before .enum-told5 .given .1, c .held .ensures, c .before .hold .ensures, as-read (c .before .before .before .before .before .args .t3) 0 (c .before .before .hold-arg .given))
 
 returns-6 : tie.Need-returns-6
-returns-6 c = 
+returns-6 c =
     let x = c .before .before .before .before .before .before .before .args .t3 in
     simp (c .before .before .before .before .before .enum-told6 .given .1, c .stepped4 .ensures, c .before .read .ensures, c .before .before .byte-addr .ensures, as-read x 0 (c .before .before .before .before .read-arg .given), as-read x 1 (c .before .before .before .byte-addr-arg .given))
 

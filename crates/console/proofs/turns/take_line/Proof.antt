@@ -113,7 +113,7 @@ numbers-line :
 numbers-line c e q = e ∙ rw (behind c, q) refl
 
 returns-2 : tie.Need-returns-2
-returns-2 c = 
+returns-2 c =
     c .with-text .ensures ∙ ap (withText _) (behind (c .before .before .before .before)) ∙
     line-with _ _ _ _ Open (sym (c .before .before .before .before .before .first-word .ensures) ∙ c .before .enum-told .given .1) (c .before .before .before .before .before .before .if1 .left)
 
@@ -124,7 +124,7 @@ same-length-2 : tie.Need-same-length-2
 same-length-2 c = search needs
 
 returns-3 : tie.Need-returns-3
-returns-3 c = 
+returns-3 c =
     c .before .before .with-samples .ensures ∙ ap (withSamples _ _ _) (behind (c .before .before .before .before .before .before .before .before)) ∙
     line-with _ _ _ _ Block (sym (c .before .before .before .before .before .before .before .before .before .first-word .ensures) ∙ c .before .before .before .before .before .enum-told2 .given .1) (c .before .before .before .before .before .before .before .before .before .before .if1 .left)
 
@@ -132,32 +132,32 @@ returns-4 : tie.Need-returns-4
 returns-4 c = c .unread2 .ensures ∙ line-with _ _ _ _ Other (sym (c .before .before .before .before .before .first-word .ensures) ∙ c .before .enum-told3 .given .1) (c .before .before .before .before .before .before .if1 .left)
 
 returns-5 : tie.Need-returns-5
-returns-5 c = 
+returns-5 c =
     numbers-line (c .before .before .before .before) (c .with-numbers .ensures) (c .before .enum-told4 .given .1) ∙
     line-with _ _ _ _ Start (sym (c .before .before .before .before .before .first-word .ensures) ∙ c .before .enum-told4 .given .1) (c .before .before .before .before .before .before .if1 .left)
 
 returns-6 : tie.Need-returns-6
-returns-6 c = 
+returns-6 c =
     numbers-line (c .before .before .before .before) (c .with-numbers2 .ensures) (c .before .enum-told5 .given .1) ∙
     line-with _ _ _ _ Write (sym (c .before .before .before .before .before .first-word .ensures) ∙ c .before .enum-told5 .given .1) (c .before .before .before .before .before .before .if1 .left)
 
 returns-7 : tie.Need-returns-7
-returns-7 c = 
+returns-7 c =
     numbers-line (c .before .before .before .before) (c .with-numbers3 .ensures) (c .before .enum-told6 .given .1) ∙
     line-with _ _ _ _ Commit (sym (c .before .before .before .before .before .first-word .ensures) ∙ c .before .enum-told6 .given .1) (c .before .before .before .before .before .before .if1 .left)
 
 returns-8 : tie.Need-returns-8
-returns-8 c = 
+returns-8 c =
     numbers-line (c .before .before .before .before) (c .with-numbers4 .ensures) (c .before .enum-told7 .given .1) ∙
     line-with _ _ _ _ Drop (sym (c .before .before .before .before .before .first-word .ensures) ∙ c .before .enum-told7 .given .1) (c .before .before .before .before .before .before .if1 .left)
 
 returns-9 : tie.Need-returns-9
-returns-9 c = 
+returns-9 c =
     numbers-line (c .before .before .before .before) (c .with-numbers5 .ensures) (c .before .enum-told8 .given .1) ∙
     line-with _ _ _ _ Hold (sym (c .before .before .before .before .before .first-word .ensures) ∙ c .before .enum-told8 .given .1) (c .before .before .before .before .before .before .if1 .left)
 
 returns-10 : tie.Need-returns-10
-returns-10 c = 
+returns-10 c =
     numbers-line (c .before .before .before .before) (c .with-numbers6 .ensures) (c .before .enum-told9 .given .1) ∙
     line-with _ _ _ _ Read (sym (c .before .before .before .before .before .first-word .ensures) ∙ c .before .enum-told9 .given .1) (c .before .before .before .before .before .before .if1 .left)
 

@@ -73,7 +73,7 @@ room2 : (c : tie.After-take-samples2) → c .take-samples2 .result .count ≤ le
 room2 c = omega (arith, second c .count, row-count sampleOf (length (c .before .before .before .before .before .before .before .before .before .before .before .args .i .now)) (drop 2 (drop (c .before .before .before .before .before .before .before .before .take-samples .result .taken) (c .before .before .before .before .before .before .before .before .before .before .before .args .rest .now))), c .take-samples2 .kept .1 .0)
 
 returns : tie.Need-returns
-returns c = 
+returns c =
     c .unread .ensures ∙
     odd-current _ _ _ _ _ _ (c .before .before .before .before .before .before .before .before .before .before .before .before .take-samples .ensures) _ _ (second (c .before .before .before .before)) (sym (barred (c .before .before .before .before .before .before .before .before)) ∙ c .before .before .before .before .before .before .before .if1 .taken) (rw (rest-of (c .before .before .before .before .before .before .before .before .before .before .before .before .take-samples .result .taken) (c .before .before .before .before .before .before .before .before .before .before .before .before .before .before .before .args .rest .now), rest-of 2 (drop (c .before .before .before .before .before .before .before .before .before .before .before .before .take-samples .result .taken) (c .before .before .before .before .before .before .before .before .before .before .before .before .before .before .before .args .rest .now))) at (c .before .if2 .taken))
 
@@ -102,7 +102,7 @@ same-length-4 : tie.Need-same-length-4
 same-length-4 c = search needs
 
 returns-2 : tie.Need-returns-2
-returns-2 c = 
+returns-2 c =
     c .stepped .ensures ∙ ap steppedTurn (c .before .block .ensures) ∙
     whole-block _ _ _ _ _ _ (c .before .before .before .before .before .before .before .before .before .before .before .before .before .before .before .take-samples .ensures) _ _ (second (c .before .before .before .before .before .before .before)) (sym (barred (c .before .before .before .before .before .before .before .before .before .before .before)) ∙ c .before .before .before .before .before .before .before .before .before .before .if1 .taken) (rw (rest-of (c .before .before .before .before .before .before .before .before .before .before .before .before .before .before .before .take-samples .result .taken) (c .before .before .before .before .before .before .before .before .before .before .before .before .before .before .before .before .before .before .args .rest .now), rest-of 2 (drop (c .before .before .before .before .before .before .before .before .before .before .before .before .before .before .before .take-samples .result .taken) (c .before .before .before .before .before .before .before .before .before .before .before .before .before .before .before .before .before .before .args .rest .now))) at (c .before .before .before .before .if2 .left))
 

@@ -66,7 +66,7 @@ stepped-requires : tie.Need-stepped-requires
 stepped-requires c κs = search needs
 
 returns-2 : tie.Need-returns-2
-returns-2 c = 
+returns-2 c =
     simp (
       c .stepped .ensures,
       c .before .«open» .ensures,
