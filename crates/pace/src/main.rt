@@ -71,7 +71,7 @@ fn written(m: Module) -> Module {
     let mut m = m;
     let mut k: usize = 0;
     while k < 8 {
-        let s = m.write(0, k as i64 + 1, FIELDS[k]);
+        let s = m.write(0, (k + 1) as i64, FIELDS[k]);
         let after = s.after;
         m = after;
         k += 1;
@@ -120,16 +120,27 @@ fn told(s: Stepped) -> i64 {
     }
 }
 
-fn print_registers(m: Module) {
-    let h = m.hold(0);
-    let held = h.after;
+fn print_registers(held: Module) {
     let mut k: usize = 0;
     while k < 9 {
         print_value(told(held.read(0, byte_addr(REGISTERS[k]))));
         io::write_all(STDOUT_FILENO, b" ");
         k += 1;
     }
-    io::print_decimal(STDOUT_FILENO, h.number as u64);
+}
+
+// The registers and the interval's number; without any block, why there are none.
+fn print_held(m: Module) {
+    let h = m.hold(0);
+    let held = h.after;
+    let answer = h.answer;
+    if let Answer::Refused(n) = answer {
+        io::write_all(STDOUT_FILENO, b"REFUSED ");
+        io::print_decimal(STDOUT_FILENO, n as u64);
+    } else {
+        print_registers(held);
+        io::print_decimal(STDOUT_FILENO, h.number as u64);
+    }
     io::write_all(STDOUT_FILENO, b"\n");
 }
 
@@ -142,5 +153,5 @@ fn main() {
     make_block(&mut v, &mut i);
     let ready = prepared();
     let m = fed(ready, blocks, &v, &i);
-    print_registers(m);
+    print_held(m);
 }
