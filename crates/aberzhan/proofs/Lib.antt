@@ -4,3 +4,11 @@ pub mod Steps
 pub mod Registers
 pub mod Writes
 pub mod Decided
+pub mod Soundness
+pub mod Agreement
+pub mod Program
+pub mod Demand3
+pub mod Energy
+pub mod Wholes
+pub mod Day
+pub mod Table

@@ -1,5 +1,5 @@
 -- Laws of the ports' numbers.
-use Prim.Native.Nat.{ℕ, zero, suc}
+use Prim.Native.Nat.{zero, suc}
 use mathlib.Core.Path.{_≡_, refl, sym}
 use mathlib.Core.Bool.{true, false, true≢false}
 use mathlib.Core.Option.{none, some}
@@ -8,7 +8,8 @@ use lib.IntN.{ℤ, pos, negsuc}
 use lib.Dec.{leb}
 use borrow.Author.Tests.{leb-true}
 use Rattle.card.specs.Every.{and-right}
-use Rattle.aberzhan.specs.Ports.{portAt, isPort, sideOf}
+use Rattle.aberzhan.specs.Ports.{portAt}
+use Rattle.aberzhan.specs.Inside.{isPort, sideOf}
 
 -- 0 and 1 name their ports
 pub at-side : (p : ℤ) → isPort p ≡ true → portAt p ≡ some (sideOf p)

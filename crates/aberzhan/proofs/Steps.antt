@@ -19,9 +19,10 @@ use Rattle.aberzhan.specs.declared.Holding.{Holding}
 use Rattle.aberzhan.specs.Desks.{Edit, openWith, writeField, opening, writing, shutDesk, edited, finished, discarded, allWritten, cardOn}
 use Rattle.aberzhan.specs.Holds.{Value, copyOf, copied}
 use Rattle.aberzhan.specs.Reading.{look}
-use Rattle.aberzhan.specs.Ports.{aberzhan, portAt, isPort, sideOf}
+use Rattle.aberzhan.specs.Ports.{aberzhan, portAt}
 use Rattle.aberzhan.specs.Answers.{desked, looked}
-use Rattle.aberzhan.specs.Module.{seen, kept, stepped, holding, notHeld, deskAt, holdAt, deskPut, holdPut, waitPut, editedAt, openOf, writeOf, commitOf, dropOf, holdOf, readOf}
+use Rattle.aberzhan.specs.Module.{seen, kept, stepped, holding, notHeld, openOf, writeOf, commitOf, dropOf, holdOf, readOf}
+use Rattle.aberzhan.specs.Inside.{isPort, sideOf, deskAt, holdAt, deskPut, holdPut, waitPut, editedAt}
 use Rattle.aberzhan.proofs.Sides.{at-side, no-side}
 
 -- ---- commit and drop of a desk

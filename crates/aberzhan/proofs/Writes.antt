@@ -1,5 +1,5 @@
 -- Laws of a field that is written.
-use Prim.Native.Nat.{ℕ, _-_}
+use Prim.Native.Nat.{_-_}
 use mathlib.Core.Path.{_≡_, sym}
 use mathlib.Core.Bool.{true, true≢false}
 use lib.Dec.{leb}

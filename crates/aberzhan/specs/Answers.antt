@@ -1,5 +1,4 @@
 -- Document 01's number and values for each answer.
-use Prim.Native.Nat.{ℕ}
 use Rattle.steps.specs.Answers.{OrRefusal, refused, accepted}
 use Rattle.meter.specs.declared.Answer.{Answer as Measured}
 use Rattle.meter.specs.declared.Answer.the-variants.{Done as MeterDone, Refused as MeterRefused}

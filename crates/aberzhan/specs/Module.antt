@@ -2,33 +2,26 @@
 use Prim.Native.Nat.{ℕ}
 use mathlib.Core.Path.{_≡_, refl}
 use mathlib.Core.List.{List}
-use mathlib.Core.Option.{Option}
 use lib.IntN.{ℤ}
 use Rattle.steps.specs.Answers.{refused, accepted}
-use Rattle.steps.specs.Port.{Port, on}
-use Rattle.steps.specs.Module.{Op, edit, commit, dropCard, hold, read, atPort, State, fresh, withMeter, withDesk, withHeld, Report, silent, commits, tells, closes, Outcome, step}
-use Rattle.steps.specs.Gauge.{waitsFor}
+use Rattle.steps.specs.Module.{Op, edit, commit, dropCard, hold, read, atPort, State, fresh, withMeter, Report, silent, commits, tells, closes, Outcome, step}
 use Rattle.card.specs.declared.Serial.{Serial}
-use Rattle.card.specs.declared.Card.{Card}
 use Rattle.card.specs.Serials.{noSerial}
 use Rattle.interval.specs.declared.addresses.WordAddr.{WordAddr}
 use Rattle.interval.specs.declared.addresses.ByteAddr.{ByteAddr}
 use Rattle.meter.specs.declared.Meter.{Meter}
-use Rattle.meter.specs.Core.{core, seen as seenMeter, kept as keptMeter}
+use Rattle.meter.specs.Core.{seen as seenMeter, kept as keptMeter}
 use Rattle.meter.specs.Blocks.{blockOf as meterBlock}
 use Rattle.meter.specs.Starting.{startOf as meterStart}
 use Rattle.aberzhan.specs.declared.answers.Answer.{Answer}
 use Rattle.aberzhan.specs.declared.answers.Answer.the-variants.{Done, Refused}
-use Rattle.aberzhan.specs.declared.desks.Desk.{Desk}
-use Rattle.aberzhan.specs.declared.desks.Desked.{Desked}
-use Rattle.aberzhan.specs.declared.holds.Held.{Held}
 use Rattle.aberzhan.specs.declared.Module.{Module}
 use Rattle.aberzhan.specs.declared.Stepped.{Stepped}
 use Rattle.aberzhan.specs.declared.Holding.{Holding}
 use Rattle.aberzhan.specs.Desks.{openWith, writeField}
-use Rattle.aberzhan.specs.Holds.{Value, interval, register}
+use Rattle.aberzhan.specs.Holds.{interval, register}
 use Rattle.aberzhan.specs.Answers.{telling, measured}
-use Rattle.aberzhan.specs.Ports.{aberzhan, portAt, sideOf}
+use Rattle.aberzhan.specs.Ports.{aberzhan, portAt}
 
 -- ---- the struct and the state are the same thing seen two ways
 
@@ -125,23 +118,3 @@ freshModule m = kept (fresh aberzhan (seenMeter m))
 
 unfoldable pub startOf : ℤ → ℤ → List WordAddr → Stepped
 startOf n b track = let r = meterStart n b track in record { answer = measured (r .answer); after = freshModule (r .after) }
-
--- ---- parts of the steps, for a port that is 0 or 1
-
-unfoldable pub deskAt : Module → ℤ → Desk
-deskAt m port = on (seen m .desks) (sideOf port)
-
-unfoldable pub holdAt : Module → ℤ → Held
-holdAt m port = on (seen m .holds) (sideOf port)
-
-unfoldable pub deskPut : Module → ℤ → Desk → Module
-deskPut m port d = kept (withDesk aberzhan (sideOf port) d (seen m))
-
-unfoldable pub holdPut : Module → ℤ → Held → Module
-holdPut m port h = kept (withHeld aberzhan (sideOf port) h (seen m))
-
-unfoldable pub waitPut : Module → Card → Module
-waitPut m c = kept (withMeter aberzhan (waitsFor core c (seenMeter (m .meter))) (seen m))
-
-unfoldable pub editedAt : Module → ℤ → Desked → Stepped
-editedAt m port did = record { answer = did .answer; after = deskPut m port (did .after) }

@@ -1,10 +1,7 @@
 -- What stands at the two ports: desks and holds, as the ports of crate `steps`; and with them the module, whose steps are that crate's `step`.
-use Prim.Native.Nat.{ℕ}
-use mathlib.Core.Bool.{Bool, _&&_, cond}
 use mathlib.Core.Option.{Option, none}
 use lib.IntN.{ℤ, pos, negsuc}
-use lib.Signed.{leZ, ltZ}
-use Rattle.steps.specs.Port.{Port, port0, port1, portOf}
+use Rattle.steps.specs.Port.{Port, portOf}
 use Rattle.steps.specs.Parts.{Parts}
 use Rattle.steps.specs.Gauge.{Ports, Meter, partsOf}
 use Rattle.card.specs.declared.Card.{Card}
@@ -43,10 +40,3 @@ aberzhan = partsOf core ports
 unfoldable pub portAt : ℤ → Option Port
 portAt (pos n) = portOf n
 portAt (negsuc n) = none
-
-unfoldable pub isPort : ℤ → Bool
-isPort p = leZ (pos 0) p && leZ p (pos 1)
-
--- which of the two a number names that is 0 or 1
-unfoldable pub sideOf : ℤ → Port
-sideOf p = cond (ltZ p (pos 1)) port0 port1

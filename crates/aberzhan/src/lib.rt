@@ -1,7 +1,7 @@
 // The module: two ports that stage cards and hold readings, before the meter.
 ghost use mathlib.Core.Path.{_≡_};
-ghost use Rattle.aberzhan.specs.Ports.{isPort};
-ghost use Rattle.aberzhan.specs.Module.{deskAt, holdAt, deskPut, holdPut, waitPut, meterPut, editedAt, openOf, writeOf, commitOf, dropOf, holdOf, readOf, blockOf, notHeld, freshModule, startOf};
+ghost use Rattle.aberzhan.specs.Inside.{isPort, deskAt, holdAt, deskPut, holdPut, waitPut, editedAt};
+ghost use Rattle.aberzhan.specs.Module.{meterPut, openOf, writeOf, commitOf, dropOf, holdOf, readOf, blockOf, notHeld, freshModule, startOf};
 ghost use Rattle.aberzhan.specs.Answers.{measured};
 
 pub mod answers;
@@ -182,10 +182,10 @@ impl Module {
                     let c = d.card();
                     let shut = Desk::shut();
                     let m = self.with_desk(port, shut);
-                    let n = m.with_waiting(c);
+                    let committed = m.with_waiting(c);
                     return Stepped {
                         answer: Answer::Done,
-                        after: n,
+                        after: committed,
                     };
                 }
                 return Stepped {
@@ -211,11 +211,11 @@ impl Module {
         if is_port(port) {
             let d = self.desk(port);
             if d.opened {
-                let shut = Desk::shut();
-                let m = self.with_desk(port, shut);
+                let blank = Desk::shut();
+                let dropped = self.with_desk(port, blank);
                 return Stepped {
                     answer: Answer::Done,
-                    after: m,
+                    after: dropped,
                 };
             }
             return Stepped {
@@ -252,12 +252,12 @@ impl Module {
                 let h = Held::of(w);
                 let c = h.closed;
                 let serial = c.serial;
-                let n = self.with_held(port, h);
+                let holding = self.with_held(port, h);
                 return Holding {
                     answer: Answer::Done,
                     number: c.number,
                     serial,
-                    after: n,
+                    after: holding,
                 };
             }
             return self.not_held(14);

@@ -1,5 +1,5 @@
 -- Laws of the fields' ranges.
-use Prim.Native.Nat.{ℕ, _+_, _-_, _<_, _≤_, min}
+use Prim.Native.Nat.{ℕ, _+_, _-_, _<_, _≤_}
 use mathlib.Core.Path.{_≡_, refl, sym, subst}
 use mathlib.Core.Bool.{Bool, true, false, cond, _&&_, true≢false, and-false}
 use native.Mathlib.Omega.{arith}
@@ -9,7 +9,7 @@ use lib.Dec.{T, ltb}
 use lib.Signed.{ltZ, leZ, nonNeg}
 use mir.Syntax.{w32, w64}
 use mir.Val.{SFits}
-use borrow.Author.Tests.{lt-leb, le-leb, ltb-true, ltb-false, lt-ltb, le-ltb}
+use borrow.Author.Tests.{lt-leb, le-leb, ltb-true, ltb-false}
 use Rattle.number.proofs.Signed.{up, dn, norm, signs, diff-is, le-out}
 use Rattle.number.proofs.Fits.{within}
 use Rattle.card.specs.Every.{every, every-at, and-left, and-right}

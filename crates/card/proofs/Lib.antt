@@ -3,3 +3,5 @@ pub mod Serials
 pub mod Fields
 pub mod Cards
 pub mod RoundTrip
+pub mod Examples
+pub mod Decided

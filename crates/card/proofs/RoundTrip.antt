@@ -1,24 +1,23 @@
 -- The round trip of a card: its bytes read back give its serial and its values, and what was read from 37 bytes gives those bytes again.
 use Prim.Native.Nat.{ℕ, zero, suc, _+_, _-_, _*_, _/_, _%_, _≤_, _<_}
 use mathlib.Core.Path.{_≡_, refl, sym, ap, _∙_}
-use mathlib.Core.Bool.{Bool, true, false, cond, _&&_}
-use mathlib.Core.List.{List, [], _∷_, _++_}
+use mathlib.Core.Bool.{Bool, true, false, cond}
+use mathlib.Core.List.{List, [], _∷_}
 use native.Mathlib.Nat.{add-zero, not-suc-le-zero, le-of-suc-le-suc}
 use native.Mathlib.Numerals.{one-add}
 use native.Mathlib.Omega.{arith}
 use lib.IntN.{ℤ, pos, negsuc}
 use lib.ListN.{length, getD, length-append, List·getD-append}
 use lib.Seq.{getD-append-add, ext-getD}
-use lib.Dec.{ltb, eqb}
+use lib.Dec.{ltb}
 use borrow.Author.Tests.{ltb-true, ltb-false, lt-ltb, le-ltb, eq-eqb}
-use Rattle.card.specs.Every.{every, every-at, every-from, both}
-use Rattle.card.specs.Places.{tab, tab-at, tab-of, tab-same, length-tab}
+use Rattle.card.specs.Every.{every-from, both}
+use Rattle.card.specs.Places.{tab-at, tab-of, tab-same, length-tab}
 use Rattle.card.specs.Serials.{isSerial, serialOf, serialBytes}
 use Rattle.card.specs.Fields.{fitsField}
 use Rattle.card.specs.Cards.{bits24, threeBytes, fieldsBytes, cardBytes, threeAt, signed24, valueOf, fieldAt, digitsAt, fieldsAt, cardOf, fieldsOk, isCard}
 use Rattle.card.specs.declared.Serial.{Serial}
-use Rattle.card.specs.declared.Card.{Card}
-use Rattle.card.proofs.Serials.{length-bytes, bytes-hold, length-padded, serial-short}
+use Rattle.card.proofs.Serials.{bytes-hold, length-padded, serial-short}
 use Rattle.card.proofs.Fields.{Value, value-in}
 use Rattle.card.proofs.Cards.{three-length}
 

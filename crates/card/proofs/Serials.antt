@@ -2,16 +2,15 @@
 use Prim.Native.Nat.{ℕ, zero, suc, _+_, _-_, _≤_, _<_}
 use mathlib.Core.Path.{_≡_, refl, sym, ap, _∙_}
 use mathlib.Core.Bool.{Bool, true, false, cond, _&&_}
-use mathlib.Core.List.{List, [], _∷_, _++_}
+use mathlib.Core.List.{List, _∷_, _++_}
 use native.Mathlib.Numerals.{one-add}
 use native.Mathlib.Omega.{arith}
-use lib.ListN.{length, getD, take, drop, replicate, length-append, length-take, length-drop, length-replicate, getD-replicate, List·getD-append, List·getD-eq-default}
+use lib.ListN.{length, getD, replicate, length-append, length-take, length-drop, length-replicate, getD-replicate, List·getD-append, List·getD-eq-default}
 use lib.Seq.{getD-take, getD-drop, getD-append-add, ext-getD, take-at}
 use lib.Dec.{leb, ltb, eqb}
-use borrow.Author.Tests.{leb-true, le-leb, ltb-true, ltb-false, lt-ltb, le-ltb, eq-eqb, eqb-true}
+use borrow.Author.Tests.{leb-true, le-leb, ltb-true, ltb-false, lt-ltb, eq-eqb, eqb-true}
 use Rattle.card.specs.Every.{every, every-at, every-from, and-left, and-right, both}
-use Rattle.card.specs.Serials.{isDigit, digitsOk, isSerial, padded, noSerial, serialOf, serialBytes, placeOk, holdsSerial, textOf}
-use Rattle.card.specs.declared.Serial.{Serial}
+use Rattle.card.specs.Serials.{isDigit, digitsOk, isSerial, padded, serialOf, serialBytes, placeOk, holdsSerial, textOf}
 
 -- what a serial's text has
 pub record Text (t : List ℕ) : Type 0 where

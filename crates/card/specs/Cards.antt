@@ -22,6 +22,7 @@ bits24 (negsuc n) = 16777215 - n % 16777216
 unfoldable pub threeBytes : ℕ → List ℕ
 threeBytes n = n % 256 ∷ n / 256 % 256 ∷ n / 65536 % 256 ∷ []
 
+-- the bytes of some fields, in order
 unfoldable pub fieldsBytes : List ℤ → List ℕ
 fieldsBytes [] = []
 fieldsBytes (v ∷ vs) = threeBytes (bits24 v) ++ fieldsBytes vs
@@ -47,9 +48,11 @@ valueOf k n = cond (ltb k 2) (signed24 n) (pos n)
 unfoldable pub fieldAt : List ℕ → ℕ → ℤ
 fieldAt c k = valueOf k (threeAt c (13 + 3 * k))
 
+-- the twelve places of the serial
 unfoldable pub digitsAt : List ℕ → List ℕ
 digitsAt c = tab (λ (k : ℕ). getD c (1 + k) 0) 12
 
+-- the eight values
 unfoldable pub fieldsAt : List ℕ → List ℤ
 fieldsAt c = tab (fieldAt c) 8
 
@@ -62,5 +65,6 @@ cardOf c = record { serial = record { len = getD c 0 0; digits = digitsAt c }; f
 unfoldable pub fieldsOk : List ℕ → Bool
 fieldsOk c = every (λ (k : ℕ). fitsField k (fieldAt c k)) 8
 
+-- 37 bytes, with a serial and eight such fields
 abbrev pub isCard : List ℕ → Bool
 isCard c = eqb (length c) 37 && holdsSerial c && fieldsOk c

@@ -5,6 +5,7 @@ use mathlib.Core.List.{List, [], _∷_}
 use lib.IntN.{ℤ, pos, negsuc, natAbs}
 use lib.ListN.{getD}
 use lib.Signed.{leZ}
+use Rattle.card.specs.Every.{every}
 
 -- the least value of each field, in order: VOFFS, IOFFS, VGAIN, IGAIN, PHASE, IRMSOFFS, SQUELCH, POFFS
 unfoldable pub lows : List ℤ
@@ -25,3 +26,7 @@ isField field = leZ (pos 1) field && leZ field (pos 8)
 -- v is in the range of the field with this number
 unfoldable pub fieldInRange : ℤ → ℤ → Bool
 fieldInRange field v = isField field && fitsField (natAbs field - 1) v
+
+-- each of eight values is in the range of its field
+unfoldable pub valuesFit : List ℤ → Bool
+valuesFit f = every (λ (k : ℕ). fitsField k (getD f k (pos 0))) 8

@@ -9,8 +9,8 @@ use native.Mathlib.Numerals.{add-one}
 use native.Mathlib.Omega.{arith}
 use lib.Dec.{leb}
 use borrow.Author.Tests.{le-leb}
-use lib.ListN.{length, getD, take, drop, set, length-append, length-take, length-drop, take-append-drop, replicate, List·getD-append}
-use lib.Seq.{length-take-le, drop-cons, set-at, getD-take, getD-drop, getD-append-add, take-suc, getD-at, ext-getD, take-at, take-all, take-suc-set, paste, paste-zero, paste-suc, take-length, drop-length}
+use lib.ListN.{length, getD, take, drop, set, length-append, length-take, length-drop, take-append-drop, drop-of-length-le, replicate, List·getD-append}
+use lib.Seq.{length-take-le, drop-cons, set-at, getD-take, getD-drop, getD-append-add, take-suc, getD-at, ext-getD, take-at, take-all, take-nil, drop-append-add, drop-drop, take-suc-set, paste, paste-zero, paste-suc, take-length, drop-length}
 
 -- n bytes of b, from at on
 unfoldable pub part : List ℕ → ℕ → ℕ → List ℕ
@@ -56,6 +56,15 @@ parts-same a b x y n l m h =
     (λ k i.
     let j : k < n = omega (arith, z) in
     part-at a x n k j ∙ h k j ∙ sym (part-at b y n k j))
+
+-- a part that begins past the end, and one that takes all the rest
+pub part-past : (b : List ℕ) (at n : ℕ) → length b ≤ at → part b at n ≡ []
+unfolding part
+part-past b at n l = rw (drop-of-length-le b {i = at} l) (take-nil n)
+
+pub part-rest : (b : List ℕ) (at n : ℕ) → length b - at ≤ n → take (length b - at) (drop at b) ≡ part b at n
+unfolding part
+part-rest b at n l = take-all (length b - at) (drop at b) (omega (arith, length-drop at b)) ∙ sym (take-all n (drop at b) (omega (arith, length-drop at b)))
 
 -- row j of n rows of size bytes ends before the end of the last
 pub row-fits : (base size : ℕ) {j n : ℕ} → j < n → base + j * size + size ≤ base + n * size
@@ -125,6 +134,19 @@ put-over b xs at k l h =
 pub front-put : (b xs : List ℕ) (at : ℕ) → at + length xs ≤ length b → take (at + length xs) (put b at xs) ≡ take at b ++ xs
 unfolding put
 front-put b xs at l = take-at (take at b ++ xs) (drop (at + length xs) b) (at + length xs) (head-length b xs at (omega arith))
+
+-- one put right behind another
+pub put-more : (b xs ys : List ℕ) (at : ℕ) → at + length xs + length ys ≤ length b → put (put b at xs) (at + length xs) ys ≡ put b at (xs ++ ys)
+unfolding put
+put-more b xs ys at l =
+    let p = take at b ++ xs in
+    let n = at + length xs in
+    let z : length p ≡ n = head-length b xs at (omega arith) in
+    let e : n + length ys ≡ at + length (xs ++ ys) = simp length-append (omega arith) in
+    ap (λ (r : List ℕ). r ++ ys ++ drop (n + length ys) (p ++ drop n b)) (take-at p (drop n b) n z)
+    ∙ ap (λ (r : List ℕ). p ++ ys ++ r) (ap (λ (m : ℕ). drop (m + length ys) (p ++ drop n b)) (sym z) ∙ drop-append-add p (drop n b) (length ys) ∙ drop-drop (length ys) n b)
+    ∙ ap (λ (r : List ℕ). r ++ drop (n + length ys) b) (append-assoc (take at b) xs ys)
+    ∙ ap (λ (k : ℕ). take at b ++ (xs ++ ys) ++ drop k b) e
 
 -- what is put up to the end
 pub put-last : (b xs : List ℕ) (at : ℕ) → at + length xs ≡ length b → put b at xs ≡ take at b ++ xs

@@ -11,6 +11,7 @@ use Rattle.card.specs.declared.Serial.{Serial}
 abbrev pub isDigit : ℕ → Bool
 isDigit d = leb 48 d && leb d 57
 
+-- every byte is a digit
 unfoldable pub digitsOk : List ℕ → Bool
 digitsOk t = every (λ (k : ℕ). isDigit (getD t k 0)) (length t)
 

@@ -4,7 +4,7 @@ ghost use Prim.Native.Nat.{_+_, _*_, _≤_, _<_};
 ghost use lib.ListN.{length, getD};
 ghost use Rattle.card.specs.Places.{put, putWithin};
 ghost use Rattle.card.specs.Serials.{isDigit, digitsOk, isSerial, noSerial, padded, serialOf, serialBytes, placeOk, holdsSerial};
-ghost use Rattle.card.specs.Fields.{fitsField, fieldInRange};
+ghost use Rattle.card.specs.Fields.{fitsField, fieldInRange, valuesFit};
 ghost use Rattle.card.specs.Cards.{bits24, threeBytes, cardBytes, threeAt, valueOf, fieldAt, digitsAt, fieldsAt, cardOf, fieldsOk, isCard};
 
 // The 13 bytes of a serial in a card: the number of digits; the digits, and then zero bytes.
@@ -48,7 +48,7 @@ pub fn is_serial(text: &[u8]) -> bool
 }
 
 // The byte at a place, or 0 past the end.
-fn byte_at(b: &[u8], k: usize) -> u8
+pub fn byte_at(b: &[u8], k: usize) -> u8
     ensures { λ r. ⌜ r ≡ getD (now (b .entry)) k 0 ⌝ }
 {
     if k < b.len() { b[k] } else { 0 }
@@ -128,12 +128,6 @@ impl Serial {
     }
 }
 
-fn wide(x: u8) -> u32
-    ensures { λ r. ⌜ (r ≡ x) × (r ≤ 255) ⌝ }
-{
-    x as u32
-}
-
 // Whether a byte may stand at place k of the twelve, where there are n digits.
 fn place_ok(n: u8, k: usize, d: u8) -> bool
     ensures { λ r. ⌜ r ≡ placeOk n k d ⌝ }
@@ -189,6 +183,19 @@ pub fn field_in_range(field: i64, value: i64) -> bool
     fits_field((field - 1) as usize, value)
 }
 
+// Whether each of eight values is in the range of its field.
+pub fn values_fit(values: [i64; 8]) -> bool
+    ensures { λ r. ⌜ r ≡ valuesFit values ⌝ }
+{
+    let mut ok = true;
+    let mut k = 0;
+    while k < 8 {
+        ok = ok & fits_field(k, values[k]);
+        k += 1;
+    }
+    ok
+}
+
 // The last 24 bits of a number.
 fn last_24(v: i64) -> u32
     ensures { λ r. ⌜ (r ≡ bits24 v) × (r ≤ 16777215) ⌝ }
@@ -233,10 +240,10 @@ fn three_at(c: &[u8], at: usize) -> u32
     requires { ⌜ at ≤ 37 ⌝ }
     ensures { λ r. ⌜ (r ≡ threeAt (now (c .entry)) at) × (r ≤ 16777215) ⌝ }
 {
-    let low = wide(byte_at(c, at));
-    let mid = wide(byte_at(c, at + 1));
-    let high = wide(byte_at(c, at + 2));
-    low + 256 * mid + 65536 * high
+    let low = byte_at(c, at);
+    let mid = byte_at(c, at + 1);
+    let high = byte_at(c, at + 2);
+    low as u32 + 256 * mid as u32 + 65536 * high as u32
 }
 
 // What 24 bits say in the field at place k of the eight.

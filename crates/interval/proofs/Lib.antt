@@ -6,4 +6,5 @@ pub mod Places
 pub mod Slots
 pub mod Wholes
 pub mod Tabled
+pub mod Lent
 pub mod Decided

@@ -1,11 +1,18 @@
 // Energy: one direction's count and remainder, advanced here and nowhere else.
 ghost use mathlib.Core.Path.{_≡_};
 ghost use Prim.Native.Nat.{_≤_};
-ghost use Rattle.interval.specs.Energies.{advanced, joinedBy, plusAfter, minusAfter, noEnergy};
+ghost use Rattle.interval.specs.Energies.{advanced, joinedBy, amountOf, plusAfter, minusAfter, noEnergy};
 
 pub struct Energy {
     pub count: u32,
     pub rest: u64,
+}
+
+// What an interval of n samples with active power p adds to the direction of its sign.
+fn amount(p: i32, n: u32) -> u64
+    ensures { λ r. ⌜ r ≡ amountOf p n ⌝ }
+{
+    number::size(p as i64) * n as u64
 }
 
 impl Energy {
@@ -16,7 +23,7 @@ impl Energy {
     }
 
     // An amount joins the remainder. Both are divided apart, so that no sum of them can wrap; `carry` is the bucket that their remainders fill together.
-    pub fn advance(self, amount: u64, bucket: u64) -> Energy
+    pub fn advanced(self, amount: u64, bucket: u64) -> Energy
         ensures { λ r. ⌜ r ≡ advanced self amount bucket ⌝ }
     {
         if bucket == 0 {
@@ -46,7 +53,7 @@ impl Energy {
         ensures { λ r. ⌜ r ≡ joinedBy own self amount bucket ⌝ }
     {
         if own {
-            return self.advance(amount, bucket);
+            return closed(self, amount, bucket);
         }
         self
     }
@@ -55,13 +62,29 @@ impl Energy {
     pub fn plus_after(self, p: i32, n: u32, bucket: u64) -> Energy
         ensures { λ r. ⌜ r ≡ plusAfter p n bucket self ⌝ }
     {
-        self.join(0 < p, number::size(p as i64) * n as u64, bucket)
+        self.join(0 < p, amount(p, n), bucket)
     }
 
     // The direction of a power below 0.
     pub fn minus_after(self, p: i32, n: u32, bucket: u64) -> Energy
         ensures { λ r. ⌜ r ≡ minusAfter p n bucket self ⌝ }
     {
-        self.join(p < 0, number::size(p as i64) * n as u64, bucket)
+        self.join(p < 0, amount(p, n), bucket)
     }
+}
+
+// The record lent, and advanced where it lies.
+pub fn advance(e: &mut Energy, amount: u64, bucket: u64)
+    ensures { λ _. ⌜ now (e .exit) ≡ advanced (now (e .entry)) amount bucket ⌝ }
+{
+    *e = Energy::advanced(*e, amount, bucket);
+}
+
+// An interval closes: its direction's record is lent and taken back.
+fn closed(e: Energy, amount: u64, bucket: u64) -> Energy
+    ensures { λ r. ⌜ r ≡ advanced e amount bucket ⌝ }
+{
+    let mut x = e;
+    advance(&mut x, amount, bucket);
+    x
 }

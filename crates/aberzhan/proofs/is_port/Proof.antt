@@ -1,6 +1,6 @@
 -- `is_port` meets its contract.
 use mir.Facts.{toZ-ofZ}
-use Rattle.aberzhan.specs.Ports.{isPort}
+use Rattle.aberzhan.specs.Inside.{isPort}
 use Rattle.aberzhan.proofs.is_port.Statement.{statement}
 use Rattle.aberzhan.proofs.is_port.Tie as tie
 

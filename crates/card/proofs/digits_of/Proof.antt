@@ -1,3 +1,4 @@
+-- `card::digits_of` meets its contract: what is left of twelve zeros is the padding.
 use mathlib.Core.Path.{_∙_}
 use native.Mathlib.Nat.{zero-add}
 use lib.ListN.{length}

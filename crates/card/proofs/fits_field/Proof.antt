@@ -1,3 +1,4 @@
+-- `card::fits_field` meets its contract: the tables are those of the definition.
 use lib.IntN.{pos}
 use lib.ListN.{getD}
 use mir.Syntax.{w64}

@@ -1,3 +1,4 @@
+-- `card::is_card` meets its contract.
 use borrow.Author.Needs.{needs}
 use Rattle.card.proofs.is_card.Statement.{statement}
 use Rattle.card.proofs.is_card.Tie as tie

@@ -1,3 +1,4 @@
+-- `card::place_ok` meets its contract.
 use borrow.Author.Tests.{lt-ltb, le-ltb}
 use Rattle.card.specs.Serials.{placeOk}
 use borrow.Author.Needs.{needs}

@@ -1,3 +1,4 @@
+-- `card::put_at` meets its contract.
 use Prim.Native.Nat.{_+_, _<_}
 use mathlib.Core.Path.{sym, _∙_}
 use lib.ListN.{length}

@@ -1,7 +1,7 @@
 -- `at_desk` meets its contract.
 use mir.Facts.{toZ-ofZ}
-use Rattle.aberzhan.specs.Module.{editedAt}
 use borrow.Author.Needs.{needs}
+use Rattle.aberzhan.specs.Inside.{editedAt}
 use Rattle.aberzhan.proofs.Module.at_desk.Statement.{statement}
 use Rattle.aberzhan.proofs.Module.at_desk.Tie as tie
 

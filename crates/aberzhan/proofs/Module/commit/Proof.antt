@@ -2,10 +2,10 @@
 use mathlib.Core.Path.{_≡_, sym, _∙_}
 use mir.Facts.{toZ-ofZ}
 use mathlib.Core.Bool.{true, false}
-use Rattle.aberzhan.specs.Ports.{isPort}
 use Rattle.steps.specs.Module.{commit}
 use Rattle.aberzhan.specs.Desks.{cardOn}
-use Rattle.aberzhan.specs.Module.{deskAt, commitOf}
+use Rattle.aberzhan.specs.Module.{commitOf}
+use Rattle.aberzhan.specs.Inside.{isPort, deskAt}
 use Rattle.aberzhan.proofs.Steps.{finished-whole, finished-13, finished-10, refused-8, commits, commit-refused}
 use borrow.Author.Needs.{needs}
 use Rattle.aberzhan.proofs.Module.commit.Statement.{statement}

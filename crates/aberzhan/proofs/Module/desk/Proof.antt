@@ -1,7 +1,6 @@
 -- `desk` meets its contract.
 use mir.Facts.{toZ-ofZ}
-use Rattle.aberzhan.specs.Ports.{sideOf}
-use Rattle.aberzhan.specs.Module.{deskAt}
+use Rattle.aberzhan.specs.Inside.{sideOf, deskAt}
 use Rattle.aberzhan.proofs.Module.desk.Statement.{statement}
 use Rattle.aberzhan.proofs.Module.desk.Tie as tie
 

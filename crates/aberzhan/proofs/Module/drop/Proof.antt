@@ -2,9 +2,9 @@
 use mathlib.Core.Path.{_≡_, sym, _∙_}
 use mir.Facts.{toZ-ofZ}
 use mathlib.Core.Bool.{true, false}
-use Rattle.aberzhan.specs.Ports.{isPort}
 use Rattle.steps.specs.Module.{dropCard}
-use Rattle.aberzhan.specs.Module.{deskAt, dropOf}
+use Rattle.aberzhan.specs.Module.{dropOf}
+use Rattle.aberzhan.specs.Inside.{isPort, deskAt}
 use Rattle.aberzhan.proofs.Steps.{discarded-open, discarded-10, refused-8, drops, drop-refused}
 use borrow.Author.Needs.{needs}
 use Rattle.aberzhan.proofs.Module.drop.Statement.{statement}

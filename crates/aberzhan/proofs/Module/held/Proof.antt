@@ -1,7 +1,6 @@
 -- `held` meets its contract.
 use mir.Facts.{toZ-ofZ}
-use Rattle.aberzhan.specs.Ports.{sideOf}
-use Rattle.aberzhan.specs.Module.{holdAt}
+use Rattle.aberzhan.specs.Inside.{sideOf, holdAt}
 use Rattle.aberzhan.proofs.Module.held.Statement.{statement}
 use Rattle.aberzhan.proofs.Module.held.Tie as tie
 

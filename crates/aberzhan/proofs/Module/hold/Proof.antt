@@ -2,7 +2,7 @@
 use mathlib.Core.Path.{_≡_, sym, _∙_}
 use mir.Facts.{toZ-ofZ}
 use mathlib.Core.Bool.{true, false}
-use Rattle.aberzhan.specs.Ports.{isPort}
+use Rattle.aberzhan.specs.Inside.{isPort}
 use Rattle.aberzhan.proofs.Steps.{holds, hold-14, hold-8}
 use borrow.Author.Needs.{needs}
 use Rattle.aberzhan.proofs.Module.hold.Statement.{statement}

@@ -2,13 +2,13 @@
 use mathlib.Core.Path.{_≡_, sym, ap, _∙_}
 use mir.Facts.{toZ-ofZ}
 use mathlib.Core.Bool.{true, false}
-use Rattle.aberzhan.specs.Ports.{isPort}
 use denote.Ref.{now}
 use Rattle.steps.specs.Module.{edit}
 use Rattle.aberzhan.specs.declared.desks.Desk.{Desk}
 use Rattle.aberzhan.specs.Desks.{openWith, opening}
 use Rattle.aberzhan.specs.Answers.{desked}
-use Rattle.aberzhan.specs.Module.{deskAt, editedAt, openOf}
+use Rattle.aberzhan.specs.Module.{openOf}
+use Rattle.aberzhan.specs.Inside.{isPort, deskAt, editedAt}
 use Rattle.aberzhan.proofs.Steps.{refused-8, opens}
 use borrow.Author.Needs.{needs}
 use Rattle.aberzhan.proofs.Module.open.Statement.{statement}

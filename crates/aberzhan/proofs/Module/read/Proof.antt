@@ -2,9 +2,9 @@
 use mathlib.Core.Path.{_≡_, sym, _∙_}
 use mir.Facts.{toZ-ofZ}
 use mathlib.Core.Bool.{true, false}
-use Rattle.aberzhan.specs.Ports.{isPort}
 use Rattle.steps.specs.Module.{read}
 use Rattle.aberzhan.specs.Module.{readOf}
+use Rattle.aberzhan.specs.Inside.{isPort}
 use Rattle.aberzhan.proofs.Steps.{refused-8, reads}
 use borrow.Author.Needs.{needs}
 use Rattle.aberzhan.proofs.Module.read.Statement.{statement}

@@ -1,5 +1,4 @@
 -- `start` meets its contract.
-use mathlib.Core.Path.{ap, _∙_}
 use mir.Facts.{toZ-ofZ}
 use Rattle.aberzhan.specs.Module.{startOf}
 use borrow.Author.Needs.{needs}

@@ -1,7 +1,6 @@
 -- `with_desk` meets its contract.
 use mir.Facts.{toZ-ofZ}
-use Rattle.aberzhan.specs.Ports.{sideOf}
-use Rattle.aberzhan.specs.Module.{deskPut}
+use Rattle.aberzhan.specs.Inside.{sideOf, deskPut}
 use Rattle.aberzhan.proofs.Module.with_desk.Statement.{statement}
 use Rattle.aberzhan.proofs.Module.with_desk.Tie as tie
 

@@ -1,7 +1,6 @@
 -- `with_held` meets its contract.
 use mir.Facts.{toZ-ofZ}
-use Rattle.aberzhan.specs.Ports.{sideOf}
-use Rattle.aberzhan.specs.Module.{holdPut}
+use Rattle.aberzhan.specs.Inside.{sideOf, holdPut}
 use Rattle.aberzhan.proofs.Module.with_held.Statement.{statement}
 use Rattle.aberzhan.proofs.Module.with_held.Tie as tie
 

@@ -1,6 +1,6 @@
 -- `with_waiting` meets its contract.
 use mathlib.Core.Path.{refl}
-use Rattle.aberzhan.specs.Module.{waitPut}
+use Rattle.aberzhan.specs.Inside.{waitPut}
 use Rattle.aberzhan.proofs.Module.with_waiting.Statement.{statement}
 use Rattle.aberzhan.proofs.Module.with_waiting.Tie as tie
 

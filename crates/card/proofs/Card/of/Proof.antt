@@ -1,3 +1,4 @@
+-- `card::Card::of` meets its contract.
 use borrow.Author.Needs.{needs}
 use Rattle.card.proofs.Card.of.Statement.{statement}
 use Rattle.card.proofs.Card.of.Tie as tie

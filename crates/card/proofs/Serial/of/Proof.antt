@@ -1,3 +1,4 @@
+-- `card::Serial::of` meets its contract.
 use mathlib.Core.Path.{sym, _∙_}
 use native.Mathlib.Omega.{arith}
 use Rattle.card.specs.Serials.{serialOf}

@@ -4,16 +4,16 @@ use borrow.Author.Needs.{needs}
 use Rattle.interval.proofs.energy.Energy.join.Statement.{statement}
 use Rattle.interval.proofs.energy.Energy.join.Tie as tie
 
-advance-requires : tie.Need-advance-requires
-advance-requires c κs = search needs
+closed-requires : tie.Need-closed-requires
+closed-requires c κs = search needs
 
 returns : tie.Need-returns
 unfolding joinedBy
-returns c = rw (c .before .if1 .taken) (c .advance .ensures)
+returns c = rw (c .before .if1 .taken) (c .closed .ensures)
 
 returns-2 : tie.Need-returns-2
 unfolding joinedBy
 returns-2 c = rw (c .if1 .left)
 
 pub join-spec : {M : Type 1} → statement M
-join-spec = tie.close (tie.spec advance-requires returns returns-2)
+join-spec = tie.close (tie.spec closed-requires returns returns-2)

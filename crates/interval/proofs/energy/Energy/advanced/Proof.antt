@@ -1,4 +1,4 @@
--- `advance` meets its contract: neither sum nor product is made that could wrap.
+-- `advanced` meets its contract: neither sum nor product is made that could wrap.
 use native.Mathlib.Omega.{arith}
 use native.Mathlib.Nat.{mod-lt}
 use mathlib.Core.Path.{_≡_, refl, sym, ap, _∙_}
@@ -7,8 +7,8 @@ use borrow.Author.Tests.{eq-eqb}
 use Rattle.interval.specs.Energies.{advanced}
 use Rattle.interval.proofs.Buckets.{without-carry, with-carry, cut-before, advanced-is}
 use borrow.Author.Needs.{needs}
-use Rattle.interval.proofs.energy.Energy.advance.Statement.{statement}
-use Rattle.interval.proofs.energy.Energy.advance.Tie as tie
+use Rattle.interval.proofs.energy.Energy.advanced.Statement.{statement}
+use Rattle.interval.proofs.energy.Energy.advanced.Tie as tie
 
 returns : tie.Need-returns
 unfolding advanced
@@ -73,8 +73,8 @@ returns-3 c =
     let h = with-carry (a .self .rest) (a .amount) (a .bucket) (some e) (c .if2 .left) in
     advanced-is (a .self) (a .amount) (a .bucket) _ _ (e .if1 .left) (omega (arith, h .0)) (sym (h .1))
 
-pub advance-spec : {M : Type 1} → statement M
-advance-spec =
+pub advanced-spec : {M : Type 1} → statement M
+advanced-spec =
     tie.close
     (tie.spec
     returns

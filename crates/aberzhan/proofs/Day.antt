@@ -1,0 +1,40 @@
+-- The day at a site, computed: the sequence shortens as said, and both sequences close the same intervals, tell the same and leave the same module.
+use mathlib.Core.Path.{refl}
+use Rattle.number.specs.Range.{in24, clipped, heldWithin}
+use Rattle.number.specs.Sign.{withSign, lessened}
+use Rattle.number.specs.Rounding.{floorDiv, towardZero}
+use Rattle.number.specs.Root.{rootOf, rootBy}
+use Rattle.card.specs.Every.{every}
+use Rattle.card.specs.Serials.{digitsOk, isSerial, padded, serialOf}
+use Rattle.card.specs.Fields.{lows, highs, fitsField, isField, fieldInRange}
+use Rattle.interval.specs.Sample.{corrected, mixed, voltage, current, phased}
+use Rattle.interval.specs.Sums.{joined, previous, summed, added, emptied}
+use Rattle.interval.specs.Rules.{rms, squelched, activeOf, apparentOf, factorOf, crestOf}
+use Rattle.interval.specs.Source.{vrmsOf, irmsOf, wattOf, ipeakOf, six, figuresOf}
+use Rattle.interval.specs.Energies.{advanced, joinedBy, plusAfter, minusAfter}
+use Rattle.interval.specs.Addresses.{trackable, untracked, words, position, placeOf, registerOf}
+use Rattle.interval.specs.Tracking.{tracked, lowest, highest, followed}
+use Rattle.interval.specs.Close.{sourceAfter, sevenOf, registersAfter, numberAfter, closedOf}
+use Rattle.meter.specs.Samples.{samplesIn}
+use Rattle.meter.specs.Core.{every24, samplesOf, lastOf, closedWork}
+use Rattle.meter.specs.Blocks.{phaseInRange, soundOf, cardOf, blockOf as meterBlock}
+use Rattle.meter.specs.Starting.{slotOk, everySlot, numbersOk, freshOf, startOf as meterStart}
+use Rattle.aberzhan.specs.Desks.{emptyCard, withField, opening, writing, allWritten, cardOn, finished, discarded}
+use Rattle.aberzhan.specs.Holds.{copyOf, copied}
+use Rattle.aberzhan.specs.Reading.{registers, slotOff, look}
+use Rattle.aberzhan.specs.Answers.{measured}
+use Rattle.aberzhan.specs.Ports.{portAt}
+use Rattle.aberzhan.specs.Module.{freshModule, startOf, openOf, writeOf, commitOf, dropOf, holdOf, readOf, blockOf, meterPut}
+use Rattle.aberzhan.specs.Day.{DayIsSo}
+
+pub day-is-so : DayIsSo
+unfolding startOf meterStart numbersOk everySlot slotOk placeOf position trackable freshOf freshModule portAt opening writing isSerial digitsOk every serialOf padded emptyCard withField isField fieldInRange fitsField lows highs finished allWritten cardOn discarded copied copyOf look registerOf words untracked slotOff registers samplesOf every24 in24 samplesIn added summed joined previous voltage phased current corrected mixed clipped heldWithin floorDiv closedWork lastOf closedOf numberAfter registersAfter vrmsOf rms rootOf rootBy sourceAfter figuresOf six irmsOf squelched wattOf ipeakOf activeOf towardZero withSign lessened apparentOf factorOf crestOf plusAfter minusAfter joinedBy advanced sevenOf followed tracked lowest highest emptied openOf writeOf commitOf dropOf holdOf readOf blockOf meterPut measured meterBlock cardOf soundOf phaseInRange
+day-is-so = record {
+  shortens = refl;
+  refuses = (refl, refl);
+  tells = (refl, refl);
+  closes = (refl, refl);
+  leaves = (refl, refl);
+  cuts = refl;
+  counts = (refl, refl);
+}

@@ -1,0 +1,119 @@
+-- Whatever a start and steps make is sound.
+use Prim.Native.Nat.{ℕ, _-_, _≤_}
+use mathlib.Core.Path.{_≡_, refl, sym, subst}
+use mathlib.Core.Bool.{Bool, true, false, cond, _&&_, true≢false}
+use mathlib.Core.List.{List}
+use lib.Dec.{T, eqb, ltb, leb, lit≤}
+use lib.IntN.{ℤ, pos, negsuc, natAbs}
+use lib.Signed.{nonNeg}
+use lib.ListN.{getD, set, length, replicate}
+use lib.Seq.{getD-set-same, getD-set-other, set-out}
+use borrow.Author.Tests.{leb-true, ltb-true, ltb-false, eqb-true, eqb-false}
+use Rattle.steps.specs.Answers.{refused, accepted}
+use Rattle.steps.specs.Gauge.{latest}
+use Rattle.steps.specs.Calls.{Sound}
+use Rattle.steps.proofs.Outcomes.{refused-never, accepted-is}
+use Rattle.card.specs.declared.Serial.{Serial}
+use Rattle.card.specs.declared.Card.{Card}
+use Rattle.card.specs.Every.{and-right}
+use Rattle.card.specs.Serials.{isSerial, serialOf}
+use Rattle.card.specs.Fields.{lows, highs, isField, fitsField, fieldInRange}
+use Rattle.interval.specs.declared.addresses.WordAddr.{WordAddr}
+use Rattle.interval.specs.Tracking.{off}
+use Rattle.meter.specs.Sound.{Phased, Sound as SoundMeter}
+use Rattle.meter.specs.Core.{core, samplesOf, kept as keptMeter}
+use Rattle.meter.specs.Starting.{everySlot, numbersOk, freshOf, notStarted, startOf as meterStart}
+use Rattle.meter.specs.declared.Answer.the-variants.{Done as MeterDone}
+use Rattle.meter.proofs.Agreement.{feeds-sound, wait-sound}
+use Rattle.meter.proofs.Starts.{numbers-in}
+use Rattle.aberzhan.specs.declared.desks.Desk.{Desk}
+use Rattle.aberzhan.specs.declared.Module.{Module}
+use Rattle.aberzhan.specs.Desks.{Edit, openWith, writeField, shutDesk, emptyCard, withField, opening, writing, allWritten, cardOn, finished}
+use Rattle.aberzhan.specs.Ports.{aberzhan}
+use Rattle.aberzhan.specs.Module.{freshModule, startOf}
+
+-- ---- the PHASE on a desk
+empty-phased : (s : Serial) → Phased (cardOn (emptyCard s))
+unfolding cardOn emptyCard
+empty-phased s = record { low = tt; high = lit≤ tt }
+
+pub shut-phased : Phased (cardOn shutDesk)
+unfolding cardOn
+shut-phased = record { low = tt; high = lit≤ tt }
+
+abbrev InPhase : ℤ → Type 0
+InPhase z = T (nonNeg z) × (natAbs z ≤ 4095)
+
+in-phase : (v : ℤ) → fitsField 4 v ≡ true → InPhase v
+unfolding fitsField lows highs
+in-phase (pos n) h = (tt, leb-true n 4095 (and-right (leb 0 n) (leb n 4095) h))
+in-phase (negsuc n) h = absurd (true≢false (sym h))
+
+-- a field written at place k
+set-phase : (xs : List ℤ) (k : ℕ) (v : ℤ) → fitsField k v ≡ true → InPhase (getD xs 4 (pos 0)) → InPhase (getD (set xs k v) 4 (pos 0))
+set-phase xs k v h i = by (eqb k 4) refl (ltb 4 (length xs)) refl
+  where
+    same : (k : ℕ) → k ≡ 4 → fitsField k v ≡ true → (b : Bool) → ltb 4 (length xs) ≡ b → InPhase (getD (set xs k v) 4 (pos 0))
+    same k e h true l = rw (e, getD-set-same xs 4 v (pos 0) (ltb-true _ _ l)) (in-phase v (rw e at h))
+    same k e h false l = rw (e, set-out xs 4 v (ltb-false _ _ l)) i
+
+    by : (b : Bool) → eqb k 4 ≡ b → (c : Bool) → ltb 4 (length xs) ≡ c → InPhase (getD (set xs k v) 4 (pos 0))
+    by true e c l = same k (eqb-true k 4 e) h c l
+    by false e c l = rw (getD-set-other xs k 4 v (pos 0) (λ q. eqb-false k 4 e (sym q))) i
+
+field-phased : (d : Desk) (k : ℕ) (v : ℤ) → fitsField k v ≡ true → Phased (cardOn d) → Phased (cardOn (withField d k v))
+unfolding cardOn withField
+field-phased d k v h i = let q = set-phase (d .fields) k v h (i .low, i .high) in record { low = q .0; high = q .1 }
+
+opens-phased : (x y : Bool) (s : Serial) (e : Desk) → cond x (refused 9) (cond y (accepted (emptyCard s)) (refused 1)) ≡ accepted e → Phased (cardOn e)
+opens-phased true y s e q = refused-never q
+opens-phased false true s e q = subst (λ (d : Desk). Phased (cardOn d)) (accepted-is q) (empty-phased s)
+opens-phased false false s e q = refused-never q
+
+writes-phased : (x y z : Bool) (d w e : Desk) → (z ≡ true → Phased (cardOn w)) → cond x (cond y (cond z (accepted w) (refused 12)) (refused 11)) (refused 10) ≡ accepted e → Phased (cardOn e)
+writes-phased true true true d w e i q = subst (λ (d : Desk). Phased (cardOn d)) (accepted-is q) (i refl)
+writes-phased true true false d w e i q = refused-never q
+writes-phased true false z d w e i q = refused-never q
+writes-phased false y z d w e i q = refused-never q
+
+pub edited-phased : (d : Desk) (e : Edit) (d′ : Desk) → Phased (cardOn d) → aberzhan .edited d e ≡ accepted d′ → Phased (cardOn d′)
+unfolding opening writing fieldInRange
+edited-phased d (openWith text) d′ i q = opens-phased (d .opened) (isSerial text) (serialOf text) d′ q
+edited-phased d (writeField f v) d′ i q =
+    writes-phased (d .opened) (isField f) (fieldInRange f v) d (withField d (natAbs f - 1) v) d′
+    (λ h. field-phased d (natAbs f - 1) v (and-right (isField f) (fitsField (natAbs f - 1) v) h) i) q
+
+card-phased : (x y : Bool) (c d : Card) → Phased c → cond x (cond y (accepted c) (refused 13)) (refused 10) ≡ accepted d → Phased d
+card-phased true true c d i q = subst (λ (c : Card). Phased c) (accepted-is q) i
+card-phased true false c d i q = refused-never q
+card-phased false y c d i q = refused-never q
+
+pub finished-phased : (d : Desk) (c : Card) → Phased (cardOn d) → aberzhan .finished d ≡ accepted c → Phased c
+unfolding finished
+finished-phased d c i q = card-phased (d .opened) (allWritten (d .written)) (cardOn d) c i q
+
+-- ---- the steps keep it
+abbrev pub sounds : Sound aberzhan
+sounds = record {
+  OfMeter = λ m. SoundMeter (keptMeter m);
+  OfCard = Phased;
+  OfDesk = λ d. Phased (cardOn d);
+  shut-sound = shut-phased;
+  edited-sound = edited-phased;
+  finished-sound = finished-phased;
+  wait-sound = λ c m i j. wait-sound m c i j;
+  feed-sound = λ m b r i e. feeds-sound (samplesOf (b .0) (b .1)) (latest core m) m r e i;
+}
+
+-- ---- what a start returns is a fresh module, taken or refused
+start-by : (P : Module → Type 0) → ((n b : ℕ) (track : List WordAddr) → 1 ≤ n → n ≤ 4096 → P (freshModule (freshOf n b track))) →
+    (n b : ℤ) (track : List WordAddr) (s t : Bool) → numbersOk n b ≡ s →
+    P (freshModule (cond (s && t) (record { answer = MeterDone; after = freshOf (natAbs n) (natAbs b) track }) notStarted .after))
+start-by P f n b track true true e = let r = numbers-in n b e .0 in f (natAbs n) (natAbs b) track (r .1) (r .2)
+start-by P f n b track true false e = f 1 1 (replicate 6 off) (lit≤ tt) (lit≤ tt)
+start-by P f n b track false t e = f 1 1 (replicate 6 off) (lit≤ tt) (lit≤ tt)
+
+pub from-start : (P : Module → Type 0) → ((n b : ℕ) (track : List WordAddr) → 1 ≤ n → n ≤ 4096 → P (freshModule (freshOf n b track))) →
+    (n b : ℤ) (track : List WordAddr) → P (startOf n b track .after)
+unfolding startOf meterStart
+from-start P f n b track = start-by P f n b track (numbersOk n b) (everySlot track) refl

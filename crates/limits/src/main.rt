@@ -1,0 +1,143 @@
+// Runs what document 01 lists under "Run by a program": each limit, and one past it. Prints a line for each with the answer.
+use aberzhan::Module;
+use aberzhan::Stepped;
+use aberzhan::answers::Answer;
+use book::Changed;
+use book::change;
+use card::Serial;
+use interval::addresses::WordAddr;
+use libc::STDOUT_FILENO;
+
+fn say(text: &[u8]) {
+    io::write_all(STDOUT_FILENO, text);
+}
+
+fn say_refused(number: u64) {
+    say(b"REFUSED ");
+    io::print_decimal(STDOUT_FILENO, number);
+    say(b"\n");
+}
+
+fn say_step(s: Stepped) {
+    let answer = s.answer;
+    match answer {
+        Answer::Done => say(b"TAKEN\n"),
+        Answer::Value(_) => say(b"VALUE\n"),
+        Answer::Refused(number) => say_refused(number as u64),
+    }
+}
+
+fn say_changed(changed: Changed) {
+    match changed {
+        Changed::Length(_) => say(b"TAKEN\n"),
+        Changed::NotSerial => say_refused(1),
+        Changed::Malformed => say_refused(2),
+        Changed::OutOfRange => say_refused(12),
+        Changed::Present => say_refused(19),
+        Changed::Full => say_refused(20),
+        Changed::NoRoom => say_refused(21),
+    }
+}
+
+fn off() -> [WordAddr; 6] {
+    [WordAddr(0); 6]
+}
+
+// 12 digits taken, 13 refused.
+fn serials() {
+    let s = Module::start(1, 1, off());
+    let m = s.after;
+    say(b"SERIAL OF 12 DIGITS ");
+    let a = m.open(0, b"012345678901");
+    say_step(a);
+    say(b"SERIAL OF 13 DIGITS ");
+    let b = m.open(0, b"0123456789012");
+    say_step(b);
+}
+
+// N 4,096 taken, 4,097 refused.
+fn starts() {
+    say(b"N 4096 ");
+    let a = Module::start(4096, 1, off());
+    say_step(a);
+    say(b"N 4097 ");
+    let b = Module::start(4097, 1, off());
+    say_step(b);
+}
+
+// Gain one and other fields 0.
+const PLAIN: [i64; 8] = [0, 0, 2097152, 2097152, 0, 0, 0, 0];
+
+// A module whose card 0417 waits.
+fn with_card() -> Module {
+    let s = Module::start(4096, 1, off());
+    let fresh = s.after;
+    let o = fresh.open(0, b"0417");
+    let mut m = o.after;
+    let mut k: usize = 0;
+    while k < 8 {
+        let w = m.write(0, (k + 1) as i64, PLAIN[k]);
+        m = w.after;
+        k += 1;
+    }
+    let c = m.commit(0);
+    c.after
+}
+
+fn feed(m: Module, samples: &[i32]) {
+    let s = m.block(samples, samples);
+    say_step(s);
+}
+
+// A block of 4,096 and of 4,097.
+fn blocks() {
+    let m = with_card();
+    let samples = [1i32; 4097];
+    say(b"BLOCK OF 4096 ");
+    feed(m, &samples[0..4096]);
+    say(b"BLOCK OF 4097 ");
+    feed(m, &samples);
+}
+
+// The serial of card k: four digits.
+fn serial_text(k: usize) -> [u8; 4] {
+    [
+        (k / 1000 % 10) as u8 + 48,
+        (k / 100 % 10) as u8 + 48,
+        (k / 10 % 10) as u8 + 48,
+        (k % 10) as u8 + 48,
+    ]
+}
+
+// Lays 1,023 cards into a buffer, as a book.
+fn lay_cards(buffer: &mut [u8]) {
+    let count = [255u8, 3];
+    card::put_at(buffer, 0, &count);
+    let mut k: usize = 0;
+    while k < 1023 {
+        let text = serial_text(k);
+        let serial = Serial::of(&text);
+        let bytes = card::card_bytes(serial, PLAIN);
+        card::put_at(buffer, 2 + 37 * k, &bytes);
+        k += 1;
+    }
+}
+
+// Card 1,024 and 1,025.
+fn cards() {
+    let mut buffer = io::large_buffer();
+    lay_cards(&mut buffer);
+    say(b"CARD 1024 ");
+    let a = change::add(&mut buffer, 37855, b"1023", PLAIN);
+    say_changed(a);
+    say(b"CARD 1025 ");
+    let b = change::add(&mut buffer, 37892, b"1024", PLAIN);
+    say_changed(b);
+}
+
+fn main() {
+    serials();
+    starts();
+    blocks();
+    cards();
+}

@@ -1,0 +1,6 @@
+-- Laws and worked examples of the listing.
+pub mod Numbers
+pub mod Lines
+pub mod Walked
+pub mod Examples
+pub mod Decided

@@ -1,0 +1,3 @@
+-- The listing of a card book, from document 01, "The listing".
+pub mod Numbers
+pub mod Lines

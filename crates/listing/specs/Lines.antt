@@ -1,0 +1,70 @@
+-- The lines of the listing. One space, 32, parts the items of a line; a line feed, 10, ends it.
+use Prim.Native.Nat.{ℕ, zero, suc, _+_}
+use mathlib.Core.Path.{_≡_}
+use mathlib.Core.Bool.{true, cond}
+use mathlib.Core.List.{List, [], _∷_, _++_}
+use lib.IntN.{ℤ}
+use lib.Dec.{ltb}
+use Rattle.card.specs.Places.{part}
+use Rattle.card.specs.Serials.{textOf}
+use Rattle.card.specs.Cards.{fieldsAt}
+use Rattle.book.specs.Sections.{entryAt}
+use Rattle.book.specs.Book.{cards, withdrawn, wellFormed}
+use Rattle.reader.specs.Walk.{stepAt, placeAfter}
+use Rattle.listing.specs.Numbers.{decimal, signedDecimal}
+
+-- REFUSED 2
+unfoldable pub refusedLine : List ℕ
+refusedLine = 82 ∷ 69 ∷ 70 ∷ 85 ∷ 83 ∷ 69 ∷ 68 ∷ 32 ∷ 50 ∷ 10 ∷ []
+
+-- CARDS n WITHDRAWN w
+unfoldable pub cardsWord : List ℕ
+cardsWord = 67 ∷ 65 ∷ 82 ∷ 68 ∷ 83 ∷ 32 ∷ []
+
+unfoldable pub withdrawnWord : List ℕ
+withdrawnWord = 32 ∷ 87 ∷ 73 ∷ 84 ∷ 72 ∷ 68 ∷ 82 ∷ 65 ∷ 87 ∷ 78 ∷ 32 ∷ []
+
+unfoldable pub firstLine : List ℕ → List ℕ
+firstLine b = cardsWord ++ decimal (cards b .count) ++ withdrawnWord ++ decimal (withdrawn b .count) ++ (10 ∷ [])
+
+-- the fields in decimal, a space before each
+unfoldable pub fieldsText : List ℤ → List ℕ
+fieldsText [] = []
+fieldsText (v ∷ vs) = (32 ∷ signedDecimal v) ++ fieldsText vs
+
+-- a card's serial and its fields 1 to 8
+unfoldable pub cardText : List ℕ → List ℕ
+cardText c = textOf c ++ fieldsText (fieldsAt c) ++ (10 ∷ [])
+
+-- W and a withdrawn serial
+unfoldable pub serialText : List ℕ → List ℕ
+serialText e = (87 ∷ 32 ∷ []) ++ textOf e ++ (10 ∷ [])
+
+-- the line of card k and of withdrawn serial k, from 0; none past the last
+unfoldable pub cardLine : List ℕ → ℕ → List ℕ
+cardLine b k = cond (ltb k (cards b .count)) (cardText (entryAt b (cards b) k)) []
+
+unfoldable pub withdrawnLine : List ℕ → ℕ → List ℕ
+withdrawnLine b k = cond (ltb k (withdrawn b .count)) (serialText (entryAt b (withdrawn b) k)) []
+
+-- the line of what a reader finds at a place: a card's, a withdrawn serial's, or none at the end
+unfoldable pub entryLine : List ℕ → ℕ → List ℕ
+entryLine b at =
+    let s = stepAt b at in
+    cond (s .card) (cardText (part b (s .at) 37))
+    (cond (s .withdrawn) (serialText (part b (s .at) 13)) [])
+
+-- line 0, line 1, and so on, n of them
+unfoldable pub lines : (ℕ → List ℕ) → ℕ → List ℕ
+lines p zero = []
+lines p (suc n) = lines p n ++ p n
+
+-- the whole listing: a bad book, longer ones included, gives one line only
+unfoldable pub listing : List ℕ → List ℕ
+listing b = cond (wellFormed b) (firstLine b ++ lines (cardLine b) (cards b .count) ++ lines (withdrawnLine b) (withdrawn b .count)) refusedLine
+
+-- what is promised of a listing that is made by a walk: its lines are those of the definition
+abbrev pub WalkedListing : Type 0
+WalkedListing =
+    (b : List ℕ) → wellFormed b ≡ true
+    → lines (λ (k : ℕ). entryLine b (placeAfter b k)) (cards b .count + withdrawn b .count) ≡ lines (cardLine b) (cards b .count) ++ lines (withdrawnLine b) (withdrawn b .count)

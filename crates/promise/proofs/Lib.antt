@@ -1,0 +1,2 @@
+-- How two clauses that state facts are used.
+pub mod Facts

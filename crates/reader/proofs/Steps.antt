@@ -1,0 +1,127 @@
+-- The ways through a step, and the walk step by step: every card, every withdrawn serial, then the end.
+use Prim.Native.Nat.{ℕ, zero, suc, _+_, _*_, _-_, _<_, _≤_}
+use mathlib.Core.Path.{_≡_, refl, sym, ap, _∙_}
+use mathlib.Core.Bool.{Bool, true, false, cond, _&&_, false≢true}
+use mathlib.Core.List.{List}
+use native.Mathlib.Omega.{arith}
+use lib.Dec.{eqb, leb, ltb}
+use lib.ListN.{length}
+use borrow.Author.Tests.{lt-ltb, le-ltb, le-leb, eq-eqb, ne-eqb, eqb-true}
+use Rattle.card.specs.Every.{and-left, and-right}
+use Rattle.book.specs.Sections.{placeOf, endOf, sectionOk}
+use Rattle.book.specs.Book.{cards, withdrawn, sized, wellFormed}
+use Rattle.reader.specs.declared.Step.{Step}
+use Rattle.reader.specs.Walk.{pastCount, noStep, cardStep, serialStep, stepAt, placeAfter}
+
+-- ---- the ways through a step
+module _ (b : List ℕ) (at : ℕ) where
+  abbrev here : ℕ
+  here = pastCount at (endOf (cards b))
+
+  pub at-card : here < endOf (cards b) → cardStep (length b) here ≡ stepAt b at
+  unfolding stepAt
+  at-card h = rw (lt-ltb here (endOf (cards b)) h) refl
+
+  pub at-serial : endOf (cards b) ≤ here → here < endOf (withdrawn b) → serialStep (length b) here ≡ stepAt b at
+  unfolding stepAt
+  at-serial h l = rw (le-ltb here (endOf (cards b)) h, lt-ltb here (endOf (withdrawn b)) l) refl
+
+  pub at-end : endOf (cards b) ≤ here → endOf (withdrawn b) ≤ here → noStep here ≡ stepAt b at
+  unfolding stepAt
+  at-end h l = rw (le-ltb here (endOf (cards b)) h, le-ltb here (endOf (withdrawn b)) l) refl
+
+-- ---- the walk through a book of the right size
+card-there : (len at : ℕ) → at + 37 ≤ len → cardStep len at ≡ record { card = true; withdrawn = false; at = at; next = at + 37 }
+unfolding cardStep
+card-there len at h = rw (le-leb (at + 37) len h) refl
+
+serial-there : (len at : ℕ) → at + 13 ≤ len → serialStep len at ≡ record { card = false; withdrawn = true; at = at; next = at + 13 }
+unfolding serialStep
+serial-there len at h = rw (le-leb (at + 13) len h) refl
+
+stays : (at end : ℕ) → (at ≡ end → ⊥) → pastCount at end ≡ at
+stays at end h = rw (ne-eqb at end h) refl
+
+passes : (at end : ℕ) → at ≡ end → pastCount at end ≡ at + 2
+passes at end h = rw (eq-eqb at end h) refl
+
+whole : (b : List ℕ) → wellFormed b ≡ true → length b ≡ endOf (withdrawn b)
+unfolding wellFormed sized
+whole b e =
+    let few = leb (cards b .count) 1024 && leb (withdrawn b .count) 512 in
+    let size = few && eqb (length b) (endOf (withdrawn b)) in
+    eqb-true (length b) (endOf (withdrawn b))
+    (and-right few (eqb (length b) (endOf (withdrawn b)))
+    (and-left size (sectionOk b (cards b)) (and-left (size && sectionOk b (cards b)) (sectionOk b (withdrawn b)) e)))
+
+module _ (b : List ℕ) (formed : wellFormed b ≡ true) where
+  abbrev n : ℕ
+  n = cards b .count
+
+  abbrev m : ℕ
+  m = withdrawn b .count
+
+  -- ---- cards
+  card-fits : (k : ℕ) → k < n → k * 37 + 37 ≤ n * 37
+  card-fits k h = omega arith
+
+  card-step : (at k : ℕ) → k < n → at ≡ 2 + k * 37 → stepAt b at ≡ record { card = true; withdrawn = false; at = 2 + k * 37; next = 2 + (k + 1) * 37 }
+  card-step at k h e =
+      let d : (at ≡ endOf (cards b) → ⊥) = λ q. omega (arith, card-fits k h) in
+      let s : pastCount at (endOf (cards b)) ≡ at = stays at (endOf (cards b)) d in
+      sym (at-card b at (omega (arith, s, card-fits k h)))
+      ∙ ap (cardStep (length b)) s
+      ∙ card-there (length b) at (omega (arith, whole b formed, card-fits k h))
+      ∙ ap (λ (p : ℕ). record { card = true; withdrawn = false; at = p; next = p + 37 }) e
+      ∙ ap (λ (q : ℕ). record { card = true; withdrawn = false; at = 2 + k * 37; next = q }) (omega arith)
+
+  after-cards : (k : ℕ) → k ≤ n → placeAfter b k ≡ 2 + k * 37
+  unfolding placeAfter
+  after-cards zero h = refl
+  after-cards (suc k) h = ap (λ (s : Step). s .next) (card-step (placeAfter b k) k (omega arith) (after-cards k (omega arith))) ∙ omega arith
+
+  pub cards-walked : (k : ℕ) → k < n → stepAt b (placeAfter b k) ≡ record { card = true; withdrawn = false; at = placeOf (cards b) k; next = placeOf (cards b) (k + 1) }
+  cards-walked k h = card-step (placeAfter b k) k h (after-cards k (omega arith))
+
+  -- ---- withdrawn serials: the first is found from the count, each later one from its place
+  serial-step : (at j : ℕ) → j < m → pastCount at (endOf (cards b)) ≡ 2 + n * 37 + 2 + j * 13 →
+      stepAt b at ≡ record { card = false; withdrawn = true; at = placeOf (withdrawn b) j; next = placeOf (withdrawn b) (j + 1) }
+  serial-step at j h s =
+      let fits : j * 13 + 13 ≤ m * 13 = omega arith in
+      sym (at-serial b at (omega (arith, s)) (omega (arith, s, fits)))
+      ∙ ap (serialStep (length b)) s
+      ∙ serial-there (length b) (2 + n * 37 + 2 + j * 13) (omega (arith, whole b formed, fits))
+      ∙ ap (λ (q : ℕ). record { card = false; withdrawn = true; at = 2 + n * 37 + 2 + j * 13; next = q }) (omega arith)
+
+  -- where the reader is before withdrawn serial j: at the count before the first, and then at each one's place
+  after-serials : (j : ℕ) → j ≤ m → pastCount (placeAfter b (n + j)) (endOf (cards b)) ≡ 2 + n * 37 + 2 + j * 13
+  unfolding placeAfter
+  after-serials zero h =
+      let z : n + 0 ≡ n = omega arith in
+      passes (placeAfter b (n + 0)) (endOf (cards b)) (ap (placeAfter b) z ∙ after-cards n (omega arith)) ∙ omega (arith, ap (placeAfter b) z, after-cards n (omega arith))
+  after-serials (suc j) h =
+      let z : n + suc j ≡ suc (n + j) = omega arith in
+      let step = serial-step (placeAfter b (n + j)) j (omega arith) (after-serials j (omega arith)) in
+      let place : placeAfter b (n + suc j) ≡ 2 + n * 37 + 2 + (j + 1) * 13 = ap (placeAfter b) z ∙ ap (λ (s : Step). s .next) step in
+      stays (placeAfter b (n + suc j)) (endOf (cards b)) (λ q. omega (arith, place)) ∙ place ∙ omega arith
+
+  pub serials-walked : (j : ℕ) → j < m → stepAt b (placeAfter b (n + j)) ≡ record { card = false; withdrawn = true; at = placeOf (withdrawn b) j; next = placeOf (withdrawn b) (j + 1) }
+  serials-walked j h = serial-step (placeAfter b (n + j)) j h (after-serials j (omega arith))
+
+  -- ---- the end, where the reader stays
+  ended : (at : ℕ) → pastCount at (endOf (cards b)) ≡ endOf (withdrawn b) → stepAt b at ≡ noStep (endOf (withdrawn b))
+  ended at s = sym (at-end b at (omega (arith, s)) (omega (arith, s))) ∙ ap noStep s
+
+  at-the-end : (d : ℕ) → pastCount (placeAfter b (n + m + d)) (endOf (cards b)) ≡ endOf (withdrawn b)
+  unfolding placeAfter
+  at-the-end zero = let z : n + m + 0 ≡ n + m = omega arith in ap (λ (k : ℕ). pastCount (placeAfter b k) (endOf (cards b))) z ∙ after-serials m (omega arith)
+  at-the-end (suc d) =
+      let z : n + m + suc d ≡ suc (n + m + d) = omega arith in
+      let place : placeAfter b (n + m + suc d) ≡ endOf (withdrawn b) = ap (placeAfter b) z ∙ ap (λ (s : Step). s .next) (ended (placeAfter b (n + m + d)) (at-the-end d)) in
+      stays (placeAfter b (n + m + suc d)) (endOf (cards b)) (λ q. omega (arith, place)) ∙ place
+
+  pub none-left : (k : ℕ) → n + m ≤ k → stepAt b (placeAfter b k) ≡ noStep (endOf (withdrawn b))
+  none-left k h =
+      let d = k - (n + m) in
+      let z : n + m + d ≡ k = omega arith in
+      ap (λ (i : ℕ). stepAt b (placeAfter b i)) (sym z) ∙ ended (placeAfter b (n + m + d)) (at-the-end d)

@@ -1,0 +1,97 @@
+-- `step_at` meets its contract.
+use native.Mathlib.Omega.{arith}
+use mathlib.Core.Path.{_≡_, refl, sym, ap, _∙_}
+use Prim.Native.Nat.{ℕ, _+_, _*_}
+use denote.Ref.{now}
+use Rattle.book.specs.Sections.{endOf}
+use Rattle.book.specs.Book.{cards, withdrawn}
+use Rattle.book.specs.declared.Section.{Section}
+use Rattle.reader.specs.Walk.{pastCount, cardStep, serialStep, noStep}
+use Rattle.reader.proofs.Steps.{at-card, at-serial, at-end}
+use borrow.Author.Needs.{needs}
+use Rattle.reader.proofs.step_at.Statement.{statement}
+use Rattle.reader.proofs.step_at.Tie as tie
+
+cards-requires : tie.Need-cards-requires
+cards-requires c κs = search needs
+
+withdrawn-requires : tie.Need-withdrawn-requires
+withdrawn-requires c κs = search needs
+
+mul-cards-end : tie.Need-mul-cards-end
+mul-cards-end c = search needs
+
+add-cards-end : tie.Need-add-cards-end
+add-cards-end c = search needs
+
+mul-end : tie.Need-mul-end
+mul-end c = search needs
+
+add-end : tie.Need-add-end
+add-end c = search needs
+
+past-count-requires : tie.Need-past-count-requires
+past-count-requires c κs = search needs
+
+card-step-requires : tie.Need-card-step-requires
+card-step-requires c κs = search needs
+
+-- the function's entry, seen from where the count was passed over
+abbrev start : tie.After-past-count → tie.Start
+start c = c .before .before .before .before .before .before .before
+
+-- where both sections end
+ends : (c : tie.After-past-count) → 2 + c .before .before .before .before .before .cards .result .count * 37 ≡ endOf (cards (now (start c .args .b)))
+ends c = ap (λ (s : Section). 2 + s .count * 37) (c .before .before .before .before .before .cards .ensures .0)
+
+ends-2 : (c : tie.After-past-count) →
+    let w = c .before .before .before .before .withdrawn .result in
+    w .base + w .count * 13 ≡ endOf (withdrawn (now (start c .args .b)))
+ends-2 c = ap (λ (s : Section). s .base + s .count * 13) (c .before .before .before .before .withdrawn .ensures .0)
+
+from : (c : tie.After-past-count) → c .past-count .result ≡ pastCount (start c .args .at) (endOf (cards (now (start c .args .b))))
+from c = c .past-count .ensures ∙ ap (pastCount (start c .args .at)) (ends c)
+
+returns : tie.Need-returns
+returns c =
+    let p = c .before .before in
+    let a = start p .args in
+    rw (c .card-step .ensures, from p) (at-card (now (a .b)) (a .at) (rw (from p, ends p) at (c .before .if1 .taken)))
+
+serial-step-requires : tie.Need-serial-step-requires
+serial-step-requires c κs = search needs
+
+returns-2 : tie.Need-returns-2
+returns-2 c =
+    let e = c .before .before in
+    let p = e .before in
+    let a = start p .args in
+    rw (c .serial-step .ensures, from p) (at-serial (now (a .b)) (a .at) (rw (from p, ends p) at (e .if1 .left)) (rw (from p, ends-2 p) at (c .before .if2 .taken)))
+
+no-step-requires : tie.Need-no-step-requires
+no-step-requires c κs = search needs
+
+returns-3 : tie.Need-returns-3
+returns-3 c =
+    let e = c .before .before in
+    let p = e .before in
+    let a = start p .args in
+    rw (c .no-step .ensures, from p) (at-end (now (a .b)) (a .at) (rw (from p, ends p) at (e .if1 .left)) (rw (from p, ends-2 p) at (c .before .if2 .left)))
+
+pub step-at-spec : {M : Type 1} → statement M
+step-at-spec =
+    tie.close
+    (tie.spec
+    cards-requires
+    withdrawn-requires
+    mul-cards-end
+    add-cards-end
+    mul-end
+    add-end
+    past-count-requires
+    card-step-requires
+    returns
+    serial-step-requires
+    returns-2
+    no-step-requires
+    returns-3)

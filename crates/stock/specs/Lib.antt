@@ -1,0 +1,2 @@
+-- What the stock program in C gets.
+pub mod Signed
