@@ -1,4 +1,4 @@
-# rattle.sh: how the scripts of this folder build and run a program of the repository. Sets root, kit and emulator.
+# rattle.sh: how the scripts of the repository build and run its programs. Sets root, kit and emulator.
 # shellcheck shell=bash disable=SC2034
 root=$(cd "$(dirname "${BASH_SOURCE[0]}")/.." && pwd -P)
 
@@ -10,6 +10,24 @@ find_kit() {
     kit=${RATTLE_HOME:-$(dirname "$(dirname "$(readlink -f "$rt")")")}/on/$(uname -m)/toolchain
     emulator=$kit/bin/qemu-x86_64
     [ -x "$emulator" ] || emulator=
+}
+
+# A program is a crate with a main.rt.
+is_program() { # NAME
+    [ -f "$root/crates/${1:-?}/src/main.rt" ]
+}
+
+list_programs() {
+    local main
+    for main in "$root"/crates/*/src/main.rt; do
+        [ ! -f "$main" ] || basename "$(dirname "$(dirname "$main")")"
+    done | paste -s -d ' '
+}
+
+# Built, and since then no file or folder of the crates has changed.
+is_built() { # NAME
+    local program=$root/target/bin/$1
+    [ -x "$program" ] && [ -z "$(find "$root/crates" "$root/crates.txt" -newer "$program" -print -quit)" ]
 }
 
 # Proves, compiles and links the named programs, and says something only where that fails.

@@ -1,0 +1,6 @@
+-- Laws of the definitions, which the functions' proofs cite.
+pub mod TextLaws
+pub mod NumberLaws
+pub mod ItemLaws
+pub mod WordLaws
+pub mod TurnLaws

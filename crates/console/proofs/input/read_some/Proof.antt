@@ -1,0 +1,65 @@
+-- `read_some` leaves the session ready for the next read.
+use borrow.Author.Needs.{needs}
+use Rattle.console.proofs.input.read_some.Statement.{statement}
+use Rattle.console.proofs.input.read_some.Tie as tie
+
+read-requires : tie.Need-read-requires
+read-requires c κs = search needs
+
+count-requires : tie.Need-count-requires
+count-requires c κs = search needs
+
+same-length : tie.Need-same-length
+same-length c = search needs
+
+returns : tie.Need-returns
+returns c = search needs
+
+slice-reshare-prefix-take-part : tie.Need-slice-reshare-prefix-take-part
+slice-reshare-prefix-take-part c = search needs
+
+slice-aggregate-take-part : tie.Need-slice-aggregate-take-part
+slice-aggregate-take-part c = search needs
+
+take-part-requires : tie.Need-take-part-requires
+take-part-requires c κs = search needs
+
+write-out-requires : tie.Need-write-out-requires
+write-out-requires c κs = search needs
+
+same-length-2 : tie.Need-same-length-2
+same-length-2 c = c .before .before .before .before .before .before .before .before .before .before .before .before .before .before .before .before .before .before .before .read .kept .1 .0
+
+same-length-3 : tie.Need-same-length-3
+same-length-3 c = search needs
+
+same-length-4 : tie.Need-same-length-4
+same-length-4 c = search needs
+
+same-length-5 : tie.Need-same-length-5
+same-length-5 c = search needs
+
+same-length-6 : tie.Need-same-length-6
+same-length-6 c = search needs
+
+returns-2 : tie.Need-returns-2
+returns-2 c = search needs
+
+pub read-some-spec : {M : Type 1} → statement M
+read-some-spec =
+    tie.close
+    (tie.spec
+    read-requires
+    count-requires
+    same-length
+    returns
+    slice-reshare-prefix-take-part
+    slice-aggregate-take-part
+    take-part-requires
+    write-out-requires
+    same-length-2
+    same-length-3
+    same-length-4
+    same-length-5
+    same-length-6
+    returns-2)

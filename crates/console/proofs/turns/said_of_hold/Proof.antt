@@ -1,0 +1,28 @@
+-- `said_of_hold` says the answer of a hold.
+use mathlib.Core.Path.{sym, ap}
+use Rattle.console.specs.Turns.{heldSaid}
+use borrow.Author.Needs.{needs}
+use Rattle.console.proofs.turns.said_of_hold.Statement.{statement}
+use Rattle.console.proofs.turns.said_of_hold.Tie as tie
+
+enum-told : tie.Need-enum-told
+enum-told c = search needs
+
+enum-told-2 : tie.Need-enum-told-2
+enum-told-2 c = search needs
+
+enum-known-a : tie.Need-enum-known-a
+enum-known-a c = search needs
+
+returns : tie.Need-returns
+returns c = search needs
+
+returns-2 : tie.Need-returns-2
+returns-2 c = search needs
+
+returns-3 : tie.Need-returns-3
+returns-3 c = sym (ap heldSaid (c .before .a .given .1))
+
+pub said-of-hold-spec : {M : Type 1} → statement M
+said-of-hold-spec =
+    tie.close (tie.spec enum-told enum-told-2 enum-known-a returns returns-2 returns-3)

@@ -1,0 +1,7 @@
+-- What the console's lines mean: reference/CONSOLE.md has the grammar in words.
+pub mod Texts
+pub mod Numbers
+pub mod Items
+pub mod Words
+pub mod Turns
+pub mod Session

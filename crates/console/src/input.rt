@@ -1,0 +1,175 @@
+// Standard input, taken apart into lines. A line may come in several reads, so its bytes are kept until its end.
+ghost use mathlib.Core.Path.{_≡_};
+ghost use Prim.Native.Nat.{_≤_, _<_};
+ghost use lib.ListN.{length};
+ghost use Rattle.console.specs.Session.{Ready};
+use super::output::put_answer;
+use super::texts::length_to;
+use super::turns::take_line;
+use aberzhan::Module;
+use interval::addresses::word_addr;
+use libc::STDIN_FILENO;
+use libc::STDOUT_FILENO;
+
+// The module, how many bytes of a line are kept, and how many of the answers' are not yet written.
+pub struct Session {
+    pub module: Module,
+    pub kept: usize,
+    pub used: usize,
+}
+
+// A session and whether there may be more input.
+pub struct More {
+    pub session: Session,
+    pub more: bool,
+}
+
+// Before any start the module is that of a refused one.
+fn begun() -> Session
+    ensures { λ r. ⌜ (r .kept ≤ 0) × (r .used ≤ 0) ⌝ }
+{
+    let off = word_addr(0);
+    let s = Module::start(0, 0, [off, off, off, off, off, off]);
+    let module = s.after;
+    Session {
+        module,
+        kept: 0,
+        used: 0,
+    }
+}
+
+// Keeps more bytes of a line, up to one more than a line may have.
+fn keep(line: &mut [u8], kept: usize, part: &[u8]) -> usize
+    requires { ⌜ kept ≤ length (now line) ⌝ }
+    ensures { λ r. ⌜ r ≤ length (now (line .exit)) ⌝ }
+{
+    let mut at = kept;
+    let mut k = 0;
+    while k < part.len() {
+        if at == line.len() {
+            return at;
+        }
+        line[at] = part[k];
+        at += 1;
+        k += 1;
+    }
+    at
+}
+
+// At a line's end: an empty line and a comment have no answer.
+fn end_line(s: Session, line: &[u8], v: &mut [i32], i: &mut [i32], out: &mut [u8]) -> Session
+    requires { ⌜ Ready s (now line) (now out) ⌝ }
+    ensures { λ r. ⌜ Ready r (now (line .entry)) (now (out .exit)) ⌝ }
+{
+    let kept = s.kept;
+    let used = s.used;
+    let module = s.module;
+    if kept == 0 {
+        return s;
+    }
+    if line[0] == b'#' {
+        return Session {
+            module,
+            kept: 0,
+            used,
+        };
+    }
+    let t = take_line(module, &line[..kept], v, i);
+    let after = t.after;
+    let n = put_answer(out, used, t);
+    Session {
+        module: after,
+        kept: 0,
+        used: n,
+    }
+}
+
+// The bytes of one read: lines, and perhaps the beginning of another.
+fn take_part(
+    s: Session,
+    part: &[u8],
+    line: &mut [u8],
+    v: &mut [i32],
+    i: &mut [i32],
+    out: &mut [u8],
+) -> Session
+    requires { ⌜ Ready s (now line) (now out) ⌝ }
+    ensures { λ r. ⌜ Ready r (now (line .exit)) (now (out .exit)) ⌝ }
+{
+    let mut s = s;
+    let mut at = 0;
+    while at < part.len() {
+        let n = length_to(b'\n', &part[at..]);
+        let e = at + n;
+        let kept = keep(line, s.kept, &part[at..e]);
+        s.kept = kept;
+        at = e;
+        if at < part.len() {
+            s = end_line(s, line, v, i, out);
+            at += 1;
+        }
+    }
+    s
+}
+
+fn write_out(s: Session, out: &[u8]) -> Session
+    requires { ⌜ s .used ≤ length (now out) ⌝ }
+    ensures { λ r. ⌜ (r .kept ≡ s .kept) × (r .used ≡ 0) ⌝ }
+{
+    let used = s.used;
+    io::write_all(STDOUT_FILENO, &out[..used]);
+    let module = s.module;
+    Session {
+        module,
+        kept: s.kept,
+        used: 0,
+    }
+}
+
+// One read. Its answers are written before the next, so that whoever types sees each answer.
+fn read_some(
+    s: Session,
+    chunk: &mut [u8],
+    line: &mut [u8],
+    v: &mut [i32],
+    i: &mut [i32],
+    out: &mut [u8],
+) -> More
+    requires { ⌜ Ready s (now line) (now out) ⌝ }
+    ensures { λ r. ⌜ Ready (r .session) (now (line .exit)) (now (out .exit)) ⌝ }
+{
+    let got = libc::read(STDIN_FILENO, chunk);
+    let n = io::count(got, chunk);
+    if n == 0 {
+        return More {
+            session: s,
+            more: false,
+        };
+    }
+    let t = take_part(s, &chunk[..n], line, v, i, out);
+    let session = write_out(t, out);
+    More {
+        session,
+        more: true,
+    }
+}
+
+// Reads to the end of the input. Nothing says that there is one, so the turns are counted down, from a number that no run uses up.
+pub(super) fn run(chunk: &mut [u8], line: &mut [u8], v: &mut [i32], i: &mut [i32], out: &mut [u8])
+    requires { ⌜ 0 < length (now out) ⌝ }
+{
+    let mut s = begun();
+    let mut turns = u64::MAX;
+    while turns > 0 {
+        let m = read_some(s, chunk, line, v, i, out);
+        let t = m.session;
+        s = t;
+        if m.more {
+            turns -= 1;
+        } else {
+            turns = 0;
+        }
+    }
+    let last = end_line(s, line, v, i, out);
+    write_out(last, out);
+}
