@@ -12,13 +12,14 @@ use Rattle.steps.specs.Module.{edit, commit, dropCard, hold, read, Step, atPort
 use Rattle.steps.specs.Gauge.{Meter, latest, feeds}
 use Rattle.steps.specs.Calls.{reply, replyTo, after, Code}
 use Rattle.card.specs.declared.Card.{Card}
-use Rattle.interval.specs.declared.addresses.ByteAddr.{ByteAddr}
+use Rattle.address.specs.declared.ByteAddr.{ByteAddr}
 use Rattle.interval.specs.declared.close.Closed.{Closed}
-use Rattle.interval.specs.Addresses.{registerOf}
-use Rattle.interval.specs.Sums.{Sample}
+use Rattle.address.specs.Addresses.{registerOf}
+use Rattle.sample.specs.Sums.{Sample}
 use Rattle.meter.specs.Sound.{Sound as SoundMeter}
 use Rattle.meter.specs.Samples.{samplesIn}
-use Rattle.meter.specs.Core.{core, every24, samplesOf, seen as seenMeter}
+use Rattle.sample.specs.Sample.{every24}
+use Rattle.meter.specs.Core.{core, samplesOf, seen as seenMeter}
 use Rattle.meter.specs.Blocks.{cardOf, answered, blockOf as meterBlock}
 use Rattle.meter.specs.declared.Stepped.{Stepped as Metered}
 use Rattle.meter.proofs.Agreement.{block-feeds}

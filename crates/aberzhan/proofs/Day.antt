@@ -7,18 +7,19 @@ use Rattle.number.specs.Root.{rootOf, rootBy}
 use Rattle.card.specs.Every.{every}
 use Rattle.card.specs.Serials.{digitsOk, isSerial, padded, serialOf}
 use Rattle.card.specs.Fields.{lows, highs, fitsField, isField, fieldInRange}
-use Rattle.interval.specs.Sample.{corrected, mixed, voltage, current, phased}
-use Rattle.interval.specs.Sums.{joined, previous, summed, added, emptied}
-use Rattle.interval.specs.Rules.{rms, squelched, activeOf, apparentOf, factorOf, crestOf}
-use Rattle.interval.specs.Source.{vrmsOf, irmsOf, wattOf, ipeakOf, six, figuresOf}
-use Rattle.interval.specs.Energies.{advanced, joinedBy, plusAfter, minusAfter}
-use Rattle.interval.specs.Addresses.{trackable, untracked, words, position, placeOf, registerOf}
+use Rattle.sample.specs.Sample.{every24, corrected, mixed, voltage, current, phased}
+use Rattle.sample.specs.Sums.{joined, previous, summed, added, emptied}
+use Rattle.rules.specs.Rules.{rms, squelched, activeOf, apparentOf, factorOf, crestOf}
+use Rattle.rules.specs.Source.{vrmsOf, irmsOf, wattOf, ipeakOf, six, figuresOf}
+use Rattle.energy.specs.Energies.{advanced, joinedBy, plusAfter, minusAfter}
+use Rattle.address.specs.Addresses.{trackable, untracked, words, position, placeOf, registerOf}
+use Rattle.address.specs.Slots.{slotOk, everySlot}
 use Rattle.interval.specs.Tracking.{tracked, lowest, highest, followed}
 use Rattle.interval.specs.Close.{sourceAfter, sevenOf, registersAfter, numberAfter, closedOf}
 use Rattle.meter.specs.Samples.{samplesIn}
-use Rattle.meter.specs.Core.{every24, samplesOf, lastOf, closedWork}
+use Rattle.meter.specs.Core.{samplesOf, lastOf, closedWork}
 use Rattle.meter.specs.Blocks.{phaseInRange, soundOf, cardOf, blockOf as meterBlock}
-use Rattle.meter.specs.Starting.{slotOk, everySlot, numbersOk, freshOf, startOf as meterStart}
+use Rattle.meter.specs.Starting.{numbersOk, freshOf, startOf as meterStart}
 use Rattle.aberzhan.specs.Desks.{emptyCard, withField, opening, writing, allWritten, cardOn, finished, discarded}
 use Rattle.aberzhan.specs.Holds.{copyOf, copied}
 use Rattle.aberzhan.specs.Reading.{registers, slotOff, look}

@@ -12,7 +12,7 @@ use Rattle.steps.specs.OneCard.{Interval, tagged, intervals, outset, workedAll}
 use Rattle.steps.specs.Calls.{SoundState, CallsRun, CallsDemand3, calls}
 use Rattle.steps.proofs.Calls.{calls-run, calls-demand3, calls-same-struct, always-sound}
 use Rattle.steps.proofs.Promise.{promise}
-use Rattle.interval.specs.declared.addresses.WordAddr.{WordAddr}
+use Rattle.address.specs.declared.WordAddr.{WordAddr}
 use Rattle.meter.specs.Core.{core}
 use Rattle.meter.specs.Starting.{noCard, freshWork, freshOf}
 use Rattle.meter.proofs.Starts.{fresh-sound}

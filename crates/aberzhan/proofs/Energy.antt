@@ -7,13 +7,13 @@ use Rattle.steps.specs.Work.{LastingWork}
 use Rattle.steps.specs.OneCard.{Interval, sumsOf, workedAll}
 use Rattle.steps.proofs.Work.{always-work}
 use Rattle.card.specs.declared.Card.{Card}
-use Rattle.interval.specs.declared.addresses.WordAddr.{WordAddr}
-use Rattle.interval.specs.declared.energy.Energy.{Energy}
+use Rattle.address.specs.declared.WordAddr.{WordAddr}
+use Rattle.energy.specs.declared.Energy.{Energy}
 use Rattle.interval.specs.declared.close.Settings.{Settings}
 use Rattle.interval.specs.declared.close.Closed.{Closed}
-use Rattle.interval.specs.Sums.{Sample, addedAll}
-use Rattle.interval.specs.Source.{six, figuresOf}
-use Rattle.interval.specs.Energies.{noEnergy}
+use Rattle.sample.specs.Sums.{Sample, addedAll}
+use Rattle.rules.specs.Source.{six, figuresOf}
+use Rattle.energy.specs.Energies.{noEnergy}
 use Rattle.interval.specs.Close.{sourceAfter, registersAfter, closedOf, noneClosed}
 use Rattle.meter.specs.declared.Work.{Work}
 use Rattle.meter.specs.Core.{core, withSums, lastOf, closedWork}

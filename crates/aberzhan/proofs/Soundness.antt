@@ -18,11 +18,11 @@ use Rattle.card.specs.declared.Card.{Card}
 use Rattle.card.specs.Every.{and-right}
 use Rattle.card.specs.Serials.{isSerial, serialOf}
 use Rattle.card.specs.Fields.{lows, highs, isField, fitsField, fieldInRange}
-use Rattle.interval.specs.declared.addresses.WordAddr.{WordAddr}
-use Rattle.interval.specs.Tracking.{off}
+use Rattle.address.specs.declared.WordAddr.{WordAddr}
+use Rattle.address.specs.Slots.{off, everySlot}
 use Rattle.meter.specs.Sound.{Phased, Sound as SoundMeter}
 use Rattle.meter.specs.Core.{core, samplesOf, kept as keptMeter}
-use Rattle.meter.specs.Starting.{everySlot, numbersOk, freshOf, notStarted, startOf as meterStart}
+use Rattle.meter.specs.Starting.{numbersOk, freshOf, notStarted, startOf as meterStart}
 use Rattle.meter.specs.declared.Answer.the-variants.{Done as MeterDone}
 use Rattle.meter.proofs.Agreement.{feeds-sound, wait-sound}
 use Rattle.meter.proofs.Starts.{numbers-in}

@@ -9,7 +9,7 @@ use Rattle.steps.specs.Answers.{OrRefusal, refused, accepted, andThen}
 use Rattle.steps.specs.Port.{Port, port0, port1, on}
 use Rattle.steps.specs.Module.{Op, edit, commit, dropCard, hold, read, atPort, withDesk, didEdit, didCommit, didDrop, didHold, didRead, stepAt, step}
 use Rattle.card.specs.declared.Card.{Card}
-use Rattle.interval.specs.declared.addresses.ByteAddr.{ByteAddr}
+use Rattle.address.specs.declared.ByteAddr.{ByteAddr}
 use Rattle.aberzhan.specs.declared.answers.Answer.the-variants.{Done, Refused}
 use Rattle.aberzhan.specs.declared.desks.Desk.{Desk}
 use Rattle.aberzhan.specs.declared.holds.Held.{Held}

@@ -2,7 +2,7 @@
 use Prim.Native.Nat.{ℕ}
 use mathlib.Core.Path.{refl}
 use lib.IntN.{ℤ}
-use Rattle.interval.specs.Addresses.{trackable, untracked, words, position, registerOf}
+use Rattle.address.specs.Addresses.{trackable, untracked, words, position, registerOf}
 use Rattle.aberzhan.specs.Reading.{registers, slotOff, look}
 use Rattle.aberzhan.specs.Table.{TableRead}
 

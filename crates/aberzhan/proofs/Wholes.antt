@@ -11,11 +11,11 @@ use lib.ListN.{length}
 use borrow.Author.Tests.{eqb-true}
 use Rattle.steps.specs.OneCard.{Tagged, Interval, Place, sumsOf, worked, workedAll, firstOf, moreOf, cutIfFull, cutAt, tagged, outset, intervals}
 use Rattle.card.specs.declared.Card.{Card}
-use Rattle.interval.specs.declared.addresses.WordAddr.{WordAddr}
-use Rattle.interval.specs.declared.sums.Sums.{Sums}
+use Rattle.address.specs.declared.WordAddr.{WordAddr}
+use Rattle.sample.specs.declared.Sums.{Sums}
 use Rattle.interval.specs.declared.close.Settings.{Settings}
 use Rattle.interval.specs.declared.close.Closed.{Closed}
-use Rattle.interval.specs.Sums.{Sample, addedAll, emptied, previous, noSums}
+use Rattle.sample.specs.Sums.{Sample, addedAll, emptied, previous, noSums}
 use Rattle.interval.specs.Whole.{lastRaw, intervalOf, sumsOf as wholeSums}
 use Rattle.interval.specs.Close.{closedOf}
 use Rattle.interval.proofs.Wholes.{sums-are, closes-whole}

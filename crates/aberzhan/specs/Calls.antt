@@ -7,7 +7,7 @@ use Rattle.steps.specs.Port.{Port, port0, port1, PerPort, on, putOn, onBoth}
 use Rattle.steps.specs.Module.{Op, edit, commit, dropCard, hold, read, Step, atPort, block}
 use Rattle.steps.specs.Calls.{Reply, refuses, done, returns}
 use Rattle.card.specs.declared.Serial.{Serial}
-use Rattle.interval.specs.declared.addresses.ByteAddr.{ByteAddr}
+use Rattle.address.specs.declared.ByteAddr.{ByteAddr}
 use Rattle.aberzhan.specs.declared.answers.Answer.{Answer}
 use Rattle.aberzhan.specs.declared.answers.Answer.the-variants.{Done, Value, Refused}
 use Rattle.aberzhan.specs.declared.Module.{Module}

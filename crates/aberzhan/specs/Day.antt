@@ -14,12 +14,12 @@ use Rattle.steps.specs.Shorter.{Act, plain, card, stepsOf, shorter}
 use Rattle.steps.specs.OneCard.{Interval, tagged, intervals, outset}
 use Rattle.card.specs.declared.Serial.{Serial}
 use Rattle.card.specs.declared.Card.{Card}
-use Rattle.interval.specs.declared.addresses.WordAddr.{WordAddr}
-use Rattle.interval.specs.declared.addresses.ByteAddr.{ByteAddr}
-use Rattle.interval.specs.declared.energy.Energy.{Energy}
+use Rattle.address.specs.declared.WordAddr.{WordAddr}
+use Rattle.address.specs.declared.ByteAddr.{ByteAddr}
+use Rattle.energy.specs.declared.Energy.{Energy}
 use Rattle.interval.specs.declared.close.Closed.{Closed}
-use Rattle.interval.specs.Sums.{noFlow}
-use Rattle.interval.specs.Tracking.{off}
+use Rattle.sample.specs.Sums.{noFlow}
+use Rattle.address.specs.Slots.{off}
 use Rattle.meter.specs.Core.{core}
 use Rattle.aberzhan.specs.declared.Module.{Module}
 use Rattle.aberzhan.specs.Desks.{Edit, openWith, writeField, shutDesk}

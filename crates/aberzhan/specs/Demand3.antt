@@ -8,8 +8,8 @@ use Rattle.steps.specs.Run.{Run, run}
 use Rattle.steps.specs.Shorter.{stepsOf, shorter}
 use Rattle.steps.specs.Gauge.{new}
 use Rattle.steps.specs.Promise.{Promise}
-use Rattle.interval.specs.declared.addresses.WordAddr.{WordAddr}
-use Rattle.interval.specs.Sums.{Sample}
+use Rattle.address.specs.declared.WordAddr.{WordAddr}
+use Rattle.sample.specs.Sums.{Sample}
 use Rattle.meter.specs.Core.{core}
 use Rattle.meter.specs.Starting.{noCard}
 use Rattle.aberzhan.specs.declared.Module.{Module}

@@ -3,11 +3,11 @@ use mathlib.Core.Path.{_≡_}
 use mathlib.Core.List.{List, [], _∷_, foldl}
 use lib.IntN.{ℤ, pos}
 use lib.ListN.{getD}
-use Rattle.interval.specs.declared.addresses.WordAddr.{WordAddr}
-use Rattle.interval.specs.declared.energy.Energy.{Energy}
+use Rattle.address.specs.declared.WordAddr.{WordAddr}
+use Rattle.energy.specs.declared.Energy.{Energy}
 use Rattle.interval.specs.declared.close.Settings.{Settings}
 use Rattle.interval.specs.declared.close.Closed.{Closed}
-use Rattle.interval.specs.Energies.{plusAfter, minusAfter, noEnergy}
+use Rattle.energy.specs.Energies.{plusAfter, minusAfter, noEnergy}
 use Rattle.interval.specs.Close.{noneClosed}
 use Rattle.meter.specs.declared.Work.{Work}
 use Rattle.aberzhan.specs.declared.Module.{Module}

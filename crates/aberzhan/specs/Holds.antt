@@ -5,7 +5,7 @@ use lib.IntN.{ℤ}
 use lib.ListN.{replicate}
 use Rattle.steps.specs.Answers.{OrRefusal, refused, accepted}
 use Rattle.card.specs.declared.Serial.{Serial}
-use Rattle.interval.specs.Tracking.{off}
+use Rattle.address.specs.Slots.{off}
 use Rattle.interval.specs.Close.{noneClosed}
 use Rattle.meter.specs.declared.Work.{Work}
 use Rattle.aberzhan.specs.declared.holds.Held.{Held}

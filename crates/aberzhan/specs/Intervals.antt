@@ -5,10 +5,10 @@ use mathlib.Core.List.{List, [], _∷_}
 use mathlib.Core.Option.{Option, none, some}
 use lib.IntN.{ℤ, pos}
 use Rattle.steps.specs.OneCard.{Interval, tagged, intervals, outset}
-use Rattle.interval.specs.declared.addresses.WordAddr.{WordAddr}
+use Rattle.address.specs.declared.WordAddr.{WordAddr}
 use Rattle.interval.specs.declared.close.Settings.{Settings}
 use Rattle.interval.specs.declared.close.Closed.{Closed}
-use Rattle.interval.specs.Sums.{Sample}
+use Rattle.sample.specs.Sums.{Sample}
 use Rattle.interval.specs.Whole.{lastRaw, intervalOf}
 use Rattle.interval.specs.Close.{noneClosed}
 use Rattle.meter.specs.Core.{core}

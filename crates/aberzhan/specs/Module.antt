@@ -7,8 +7,8 @@ use Rattle.steps.specs.Answers.{refused, accepted}
 use Rattle.steps.specs.Module.{Op, edit, commit, dropCard, hold, read, atPort, State, fresh, withMeter, Report, silent, commits, tells, closes, Outcome, step}
 use Rattle.card.specs.declared.Serial.{Serial}
 use Rattle.card.specs.Serials.{noSerial}
-use Rattle.interval.specs.declared.addresses.WordAddr.{WordAddr}
-use Rattle.interval.specs.declared.addresses.ByteAddr.{ByteAddr}
+use Rattle.address.specs.declared.WordAddr.{WordAddr}
+use Rattle.address.specs.declared.ByteAddr.{ByteAddr}
 use Rattle.meter.specs.declared.Meter.{Meter}
 use Rattle.meter.specs.Core.{seen as seenMeter, kept as keptMeter}
 use Rattle.meter.specs.Blocks.{blockOf as meterBlock}

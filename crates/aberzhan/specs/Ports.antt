@@ -5,7 +5,7 @@ use Rattle.steps.specs.Port.{Port, portOf}
 use Rattle.steps.specs.Parts.{Parts}
 use Rattle.steps.specs.Gauge.{Ports, Meter, partsOf}
 use Rattle.card.specs.declared.Card.{Card}
-use Rattle.interval.specs.declared.addresses.ByteAddr.{ByteAddr}
+use Rattle.address.specs.declared.ByteAddr.{ByteAddr}
 use Rattle.meter.specs.Core.{core}
 use Rattle.aberzhan.specs.declared.desks.Desk.{Desk}
 use Rattle.aberzhan.specs.declared.holds.Held.{Held}

@@ -7,11 +7,11 @@ use lib.Dec.{eqb, leb, ltb}
 use lib.IntN.{ℤ, pos}
 use lib.ListN.{getD}
 use Rattle.steps.specs.Answers.{OrRefusal, refused, accepted}
-use Rattle.interval.specs.declared.addresses.WordAddr.{WordAddr}
-use Rattle.interval.specs.declared.addresses.ByteAddr.{ByteAddr}
+use Rattle.address.specs.declared.WordAddr.{WordAddr}
+use Rattle.address.specs.declared.ByteAddr.{ByteAddr}
 use Rattle.interval.specs.declared.close.Registers.{Registers}
-use Rattle.interval.specs.Addresses.{registerOf}
-use Rattle.interval.specs.Tracking.{off}
+use Rattle.address.specs.Addresses.{registerOf}
+use Rattle.address.specs.Slots.{off}
 use Rattle.aberzhan.specs.declared.holds.Held.{Held}
 use Rattle.aberzhan.specs.Holds.{Value, register, nothingHeld}
 

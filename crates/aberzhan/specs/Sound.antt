@@ -5,7 +5,7 @@ use mathlib.Core.Bool.{_||_, cond}
 use mathlib.Core.List.{List}
 use lib.IntN.{ℤ}
 use Rattle.steps.specs.Answers.{accepted}
-use Rattle.interval.specs.Sums.{Sample}
+use Rattle.sample.specs.Sums.{Sample}
 use Rattle.meter.specs.Sound.{Phased, Sound}
 use Rattle.meter.specs.Core.{samplesOf}
 use Rattle.aberzhan.specs.declared.answers.Answer.the-variants.{Done, Refused}

@@ -7,9 +7,9 @@ use lib.IntN.{ℤ, pos}
 use lib.ListN.{replicate}
 use Rattle.steps.specs.Answers.{OrRefusal, refused, accepted}
 use Rattle.card.specs.Serials.{noSerial}
-use Rattle.interval.specs.declared.addresses.WordAddr.{WordAddr}
+use Rattle.address.specs.declared.WordAddr.{WordAddr}
 use Rattle.interval.specs.declared.close.Registers.{Registers}
-use Rattle.interval.specs.Tracking.{off}
+use Rattle.address.specs.Slots.{off}
 use Rattle.aberzhan.specs.declared.holds.Held.{Held}
 use Rattle.aberzhan.specs.Holds.{Value, register}
 use Rattle.aberzhan.specs.Reading.{look}

@@ -7,9 +7,8 @@ ghost use Rattle.aberzhan.specs.Holds.{nothingHeld, copyOf};
 ghost use Rattle.aberzhan.specs.Reading.{registers, slotOff, look};
 ghost use Rattle.aberzhan.specs.Answers.{looked};
 use super::answers::Answer;
-use interval::addresses;
-use interval::addresses::ByteAddr;
-use interval::addresses::WordAddr;
+use address::ByteAddr;
+use address::WordAddr;
 use interval::close::Closed;
 use interval::close::Registers;
 use meter::Work;
@@ -97,7 +96,7 @@ impl Held {
         ensures { λ r. ⌜ r ≡ looked (look self address) ⌝ }
     {
         if self.some {
-            let k = addresses::register_of(address);
+            let k = address::register_of(address);
             if k < 21 {
                 let track = self.track;
                 if slot_off(track, k) {

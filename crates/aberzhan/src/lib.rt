@@ -8,14 +8,14 @@ pub mod answers;
 pub mod desks;
 pub mod holds;
 
+use address::ByteAddr;
+use address::WordAddr;
 use answers::Answer;
 use card::Card;
 use card::Serial;
 use desks::Desk;
 use desks::Desked;
 use holds::Held;
-use interval::addresses::ByteAddr;
-use interval::addresses::WordAddr;
 use meter::Meter;
 
 // What each step takes and hands back. Port k has the desk and the hold with its number.

@@ -6,7 +6,7 @@ use lib.Dec.{eqb, ltb}
 use lib.IntN.{ℤ, pos}
 use lib.ListN.{length, drop, getD}
 use Rattle.card.specs.Serials.{noSerial}
-use Rattle.interval.specs.Addresses.{wordAddr, byteAddr}
+use Rattle.address.specs.Addresses.{wordAddr, byteAddr}
 use Rattle.aberzhan.specs.declared.answers.Answer.{Answer}
 use Rattle.aberzhan.specs.declared.answers.Answer.the-variants as answer
 use Rattle.aberzhan.specs.declared.Module.{Module}

@@ -7,7 +7,7 @@ use super::output::put_answer;
 use super::texts::length_to;
 use super::turns::take_line;
 use aberzhan::Module;
-use interval::addresses::word_addr;
+use address::word_addr;
 use libc::STDIN_FILENO;
 use libc::STDOUT_FILENO;
 

@@ -6,11 +6,11 @@ use Rattle.number.specs.Range.{clipped, heldWithin}
 use Rattle.number.specs.Sign.{withSign, lessened}
 use Rattle.number.specs.Rounding.{floorDiv, towardZero}
 use Rattle.number.specs.Root.{rootOf, rootBy}
-use Rattle.interval.specs.Sample.{corrected, mixed, voltage, current, phased}
-use Rattle.interval.specs.Sums.{joined, previous, summed, added, addedAll}
-use Rattle.interval.specs.Rules.{rms, squelched, activeOf, apparentOf, factorOf, crestOf}
-use Rattle.interval.specs.Source.{vrmsOf, irmsOf, wattOf, ipeakOf, six, figuresOf}
-use Rattle.interval.specs.Energies.{advanced, joinedBy, plusAfter, minusAfter}
+use Rattle.sample.specs.Sample.{corrected, mixed, voltage, current, phased}
+use Rattle.sample.specs.Sums.{joined, previous, summed, added, addedAll}
+use Rattle.rules.specs.Rules.{rms, squelched, activeOf, apparentOf, factorOf, crestOf}
+use Rattle.rules.specs.Source.{vrmsOf, irmsOf, wattOf, ipeakOf, six, figuresOf}
+use Rattle.energy.specs.Energies.{advanced, joinedBy, plusAfter, minusAfter}
 use Rattle.interval.specs.Close.{sourceAfter, sevenOf, registersAfter, numberAfter, closedOf}
 use Rattle.interval.specs.Figures.{plain, having, interval, vrms, figure, irms, watt, currents, volts, lowest, minusFive, once, twice, beyond, figures}
 

@@ -8,12 +8,12 @@ use lib.IntN.{ℤ, pos, natAbs, _+ℤ_, _*ℤ_, +ℤ-assoc, +ℤ-idl, +ℤ-idr}
 use lib.ListN.{length}
 use Rattle.number.specs.Sign.{squareOf}
 use Rattle.card.specs.declared.Card.{Card}
-use Rattle.interval.specs.declared.sums.Flow.{Flow}
-use Rattle.interval.specs.declared.sums.Sums.{Sums}
+use Rattle.sample.specs.declared.Flow.{Flow}
+use Rattle.sample.specs.declared.Sums.{Sums}
 use Rattle.interval.specs.declared.close.Settings.{Settings}
 use Rattle.interval.specs.declared.close.Closed.{Closed}
-use Rattle.interval.specs.Sample.{voltage, phased}
-use Rattle.interval.specs.Sums.{Sample, joined, previous, summed, added, addedAll, emptied, noFlow}
+use Rattle.sample.specs.Sample.{voltage, phased}
+use Rattle.sample.specs.Sums.{Sample, joined, previous, summed, added, addedAll, emptied, noFlow}
 use Rattle.interval.specs.Whole.{worked, total, balance, largest, voltageSquares, flowOf, lastRaw, sumsOf, intervalOf}
 use Rattle.interval.specs.Close.{closedOf}
 

@@ -6,14 +6,14 @@ use lib.IntN.{ℤ, pos}
 use lib.ListN.{replicate}
 use Rattle.card.specs.declared.Card.{Card}
 use Rattle.card.specs.Serials.{noSerial}
-use Rattle.interval.specs.declared.sums.Flow.{Flow}
-use Rattle.interval.specs.declared.sums.Sums.{Sums}
+use Rattle.sample.specs.declared.Flow.{Flow}
+use Rattle.sample.specs.declared.Sums.{Sums}
 use Rattle.interval.specs.declared.close.Settings.{Settings}
 use Rattle.interval.specs.declared.close.Source.{Source}
 use Rattle.interval.specs.declared.close.Registers.{Registers}
 use Rattle.interval.specs.declared.close.Closed.{Closed}
-use Rattle.interval.specs.Source.{vrmsOf, figuresOf, wattOf}
-use Rattle.interval.specs.Energies.{plusAfter, minusAfter, noEnergy}
+use Rattle.rules.specs.Source.{vrmsOf, figuresOf, wattOf}
+use Rattle.energy.specs.Energies.{plusAfter, minusAfter, noEnergy}
 use Rattle.interval.specs.Tracking.{followed}
 
 -- one current source: its six figures, and both directions' energy; v is VRMS, b the bucket

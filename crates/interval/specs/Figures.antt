@@ -6,13 +6,13 @@ use lib.IntN.{ℤ, pos, negsuc}
 use lib.ListN.{getD, set, length, replicate}
 use Rattle.card.specs.declared.Card.{Card}
 use Rattle.card.specs.Serials.{noSerial}
-use Rattle.interval.specs.declared.energy.Energy.{Energy}
+use Rattle.energy.specs.declared.Energy.{Energy}
 use Rattle.interval.specs.declared.close.Settings.{Settings}
 use Rattle.interval.specs.declared.close.Registers.{Registers}
-use Rattle.interval.specs.Sample.{voltage, phased}
-use Rattle.interval.specs.Sums.{Sample, addedAll, noSums}
-use Rattle.interval.specs.Energies.{plusAfter, noEnergy}
-use Rattle.interval.specs.Tracking.{off}
+use Rattle.sample.specs.Sample.{voltage, phased}
+use Rattle.sample.specs.Sums.{Sample, addedAll, noSums}
+use Rattle.energy.specs.Energies.{plusAfter, noEnergy}
+use Rattle.address.specs.Slots.{off}
 use Rattle.interval.specs.Close.{closedOf, noneClosed}
 
 -- gain one and other fields 0

@@ -5,13 +5,10 @@ use mathlib.Core.List.{List, [], _∷_}
 use lib.IntN.{ℤ, pos}
 use lib.ListN.{getD}
 use lib.Signed.{ltZ}
-use Rattle.interval.specs.declared.addresses.WordAddr.{WordAddr}
+use Rattle.address.specs.declared.WordAddr.{WordAddr}
 use Rattle.interval.specs.declared.track.Ends.{Ends}
-use Rattle.interval.specs.Addresses.{placeOf}
-
--- a slot that is off
-abbrev pub off : WordAddr
-off = record { 0 = 0 }
+use Rattle.address.specs.Addresses.{placeOf}
+use Rattle.address.specs.Slots.{off}
 
 -- the value that a slot tracks, of the seven registers that can be: that of the word it names; of a slot that is off, 0
 unfoldable pub tracked : WordAddr → List ℤ → ℤ

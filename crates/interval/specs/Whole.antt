@@ -7,12 +7,12 @@ use lib.IntN.{ℤ, pos, natAbs, _+ℤ_, _*ℤ_}
 use lib.ListN.{length}
 use Rattle.number.specs.Sign.{squareOf}
 use Rattle.card.specs.declared.Card.{Card}
-use Rattle.interval.specs.declared.sums.Flow.{Flow}
-use Rattle.interval.specs.declared.sums.Sums.{Sums}
+use Rattle.sample.specs.declared.Flow.{Flow}
+use Rattle.sample.specs.declared.Sums.{Sums}
 use Rattle.interval.specs.declared.close.Settings.{Settings}
 use Rattle.interval.specs.declared.close.Closed.{Closed}
-use Rattle.interval.specs.Sample.{voltage, phased}
-use Rattle.interval.specs.Sums.{Sample}
+use Rattle.sample.specs.Sample.{voltage, phased}
+use Rattle.sample.specs.Sums.{Sample}
 use Rattle.interval.specs.Close.{closedOf}
 
 -- the corrected voltage and the corrected current of each sample; `before` is the raw current before the first

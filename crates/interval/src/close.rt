@@ -1,15 +1,14 @@
 // The close of an interval.
 ghost use mathlib.Core.Path.{_≡_};
-ghost use Rattle.interval.specs.Source.{vrmsOf};
+ghost use Rattle.rules.specs.Source.{vrmsOf};
 ghost use Rattle.interval.specs.Close.{sourceAfter, sevenOf, registersAfter, closedOf, noneClosed};
-use super::addresses::WordAddr;
-use super::energy::Energy;
-use super::rules;
-use super::sums::Flow;
-use super::sums::Sums;
 use super::track::Ends;
+use address::WordAddr;
 use card::Card;
 use card::Serial;
+use energy::Energy;
+use sample::Flow;
+use sample::Sums;
 
 // n: samples per interval; b: the bucket; track: the words that the six slots track.
 pub struct Settings {
@@ -87,6 +86,29 @@ impl Registers {
 }
 
 impl Closed {
+    // Before any interval has closed.
+    pub fn none() -> Closed
+        ensures { λ r. ⌜ r ≡ noneClosed ⌝ }
+    {
+        let serial = Serial::none();
+        Closed {
+            number: 0,
+            serial,
+            regs: Registers {
+                vrms: 0,
+                a: Source {
+                    figures: [0; 6],
+                    plus: Energy { count: 0, rest: 0 },
+                    minus: Energy { count: 0, rest: 0 },
+                },
+                ends: Ends {
+                    low: [0; 6],
+                    high: [0; 6],
+                },
+            },
+        }
+    }
+
     // The interval that closes next, of n samples.
     pub fn next(self, first: bool, t: Settings, c: Card, s: Sums, n: u32) -> Closed
         ensures { λ r. ⌜ r ≡ closedOf first t c s n self ⌝ }

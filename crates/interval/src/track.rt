@@ -1,8 +1,8 @@
 // Minima and maxima of the six tracked slots.
 ghost use mathlib.Core.Path.{_≡_};
 ghost use Rattle.interval.specs.Tracking.{tracked, lowest, highest, followed};
-use super::addresses::WordAddr;
-use super::addresses::place_of;
+use address::WordAddr;
+use address::place_of;
 
 // What each slot has followed.
 pub struct Ends {

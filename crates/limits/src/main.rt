@@ -2,10 +2,10 @@
 use aberzhan::Module;
 use aberzhan::Stepped;
 use aberzhan::answers::Answer;
+use address::WordAddr;
 use book::Changed;
 use book::change;
 use card::Serial;
-use interval::addresses::WordAddr;
 use libc::STDOUT_FILENO;
 
 fn say(text: &[u8]) {

@@ -14,8 +14,8 @@ use Rattle.steps.specs.Answers.{OrRefusal, refused, accepted}
 use Rattle.steps.specs.Gauge.{Meter, latest, feeds, samples, waitsFor}
 use Rattle.card.specs.declared.Card.{Card}
 use Rattle.interval.specs.declared.close.Closed.{Closed}
-use Rattle.interval.specs.Fields.{field}
-use Rattle.interval.specs.Sums.{Sample}
+use Rattle.sample.specs.Fields.{field}
+use Rattle.sample.specs.Sums.{Sample}
 use Rattle.meter.specs.declared.Meter.{Meter as Kept}
 use Rattle.meter.specs.Sound.{Room, Phased, Sound}
 use Rattle.meter.specs.Core.{core, seen, kept, samplesOf, fedOf}

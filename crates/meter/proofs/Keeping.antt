@@ -11,12 +11,12 @@ use lib.IntN.{ℤ, pos, natAbs}
 use lib.Signed.{mag, ltZ}
 use borrow.Author.Tests.{eqb-true, eqb-false}
 use Rattle.steps.specs.Gauge.{Meter, waitOver, begun}
-use Rattle.interval.proofs.Corrections.{corrected-in, mixed-in}
+use Rattle.sample.proofs.Corrections.{corrected-in, mixed-in}
 use Rattle.card.specs.declared.Card.{Card}
-use Rattle.interval.specs.declared.sums.Sums.{Sums}
-use Rattle.interval.specs.Fields.{field}
-use Rattle.interval.specs.Sample.{voltage, current, phased}
-use Rattle.interval.specs.Sums.{Sample, added, addedAll, previous, emptied}
+use Rattle.sample.specs.declared.Sums.{Sums}
+use Rattle.sample.specs.Fields.{field}
+use Rattle.sample.specs.Sample.{voltage, current, phased}
+use Rattle.sample.specs.Sums.{Sample, added, addedAll, previous, emptied}
 use Rattle.meter.specs.declared.Work.{Work}
 use Rattle.meter.specs.declared.Meter.{Meter as Kept}
 use Rattle.meter.specs.Sound.{Room, Spare, Phased, Sound}

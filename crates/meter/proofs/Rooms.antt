@@ -11,10 +11,10 @@ use mir.Val.{SFits}
 use Rattle.number.proofs.Signed.{up, dn, add-is, abs-is}
 use Rattle.number.proofs.Fits.{within, Size, size-mul}
 use Rattle.number.proofs.Ranges.{size24}
-use Rattle.interval.specs.declared.sums.Flow.{Flow}
-use Rattle.interval.specs.declared.sums.Sums.{Sums}
+use Rattle.sample.specs.declared.Flow.{Flow}
+use Rattle.sample.specs.declared.Sums.{Sums}
 use Rattle.number.specs.Sign.{squareOf}
-use Rattle.interval.specs.Sums.{joined, summed}
+use Rattle.sample.specs.Sums.{joined, summed}
 use Rattle.meter.specs.Sound.{Flowing, Room, Spare, Phased}
 use Rattle.meter.specs.Samples.{probeOf}
 use Rattle.card.specs.declared.Card.{Card}

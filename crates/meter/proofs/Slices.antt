@@ -7,10 +7,10 @@ use native.Mathlib.Numerals.{add-one}
 use native.Mathlib.Omega.{arith}
 use lib.ListN.{length, getD, take, drop, drop-of-length-le}
 use lib.IntN.{ℤ, pos}
-use Rattle.interval.specs.Sample.{corrected, mixed, voltage, current, phased}
+use Rattle.sample.specs.Sample.{corrected, mixed, voltage, current, phased}
 use Rattle.card.specs.declared.Card.{Card}
-use Rattle.interval.specs.declared.sums.Sums.{Sums}
-use Rattle.interval.specs.Sums.{Sample, summed, added, addedAll, previous}
+use Rattle.sample.specs.declared.Sums.{Sums}
+use Rattle.sample.specs.Sums.{Sample, summed, added, addedAll, previous}
 use Rattle.meter.specs.declared.samples.Probe.{Probe}
 use Rattle.meter.specs.Samples.{samplesIn, probeOf, probed, probedAll}
 

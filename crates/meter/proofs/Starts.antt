@@ -11,21 +11,13 @@ use lib.Signed.{leZ, nonNeg}
 use borrow.Author.Tests.{leb-true}
 use lib.ListN.{length, getD, drop, drop-of-length-le, replicate}
 use lib.Seq.{drop-cons}
-use Rattle.interval.specs.declared.addresses.WordAddr.{WordAddr}
-use Rattle.interval.specs.Tracking.{off}
+use Rattle.address.specs.declared.WordAddr.{WordAddr}
+use Rattle.address.specs.Slots.{everySlot}
 use Rattle.meter.specs.Sound.{Room, Phased, Sound}
-use Rattle.interval.specs.Sums.{noSums}
-use Rattle.meter.specs.Starting.{slotOk, everySlot, numbersOk, noCard, freshOf, startOf, notStarted}
+use Rattle.sample.specs.Sums.{noSums}
+use Rattle.meter.specs.Starting.{numbersOk, noCard, freshOf, startOf, notStarted}
 use Rattle.meter.specs.declared.Stepped.{Stepped}
 use Rattle.meter.specs.declared.Answer.the-variants.{Done}
-
-pub slots-more : (a : List WordAddr) (k : ℕ) → k < length a → everySlot (drop k a) ≡ slotOk (getD a k off) && everySlot (drop (k + 1) a)
-unfolding everySlot
-slots-more a k h = rw (add-one, drop-cons a k off h)
-
-pub slots-end : (a : List WordAddr) (k : ℕ) → length a ≤ k → everySlot (drop k a) ≡ true
-unfolding everySlot
-slots-end a k h = rw (drop-of-length-le a {i = k} h)
 
 -- a fresh module is sound
 no-card-phased : Phased noCard

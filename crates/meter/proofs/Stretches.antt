@@ -11,11 +11,11 @@ use lib.Seq.{drop-drop}
 use lib.IntN.{ℤ}
 use borrow.Author.Tests.{eq-eqb, ne-eqb}
 use Rattle.steps.specs.Gauge.{Meter, workedOn, waitOver, begun, closing, joins, sample, samples}
-use Rattle.interval.specs.declared.sums.Sums.{Sums}
+use Rattle.sample.specs.declared.Sums.{Sums}
 use Rattle.interval.specs.declared.close.Closed.{Closed}
 use Rattle.meter.specs.declared.Work.{Work}
 use Rattle.meter.specs.declared.Meter.{Meter as Kept}
-use Rattle.interval.specs.Sums.{Sample, added, addedAll}
+use Rattle.sample.specs.Sums.{Sample, added, addedAll}
 use Rattle.meter.specs.Core.{core, seen, kept, fedOf, begunOf, endOf, stretchOf, withSums, closedWork}
 
 -- a sample has joined, and closes the interval or not

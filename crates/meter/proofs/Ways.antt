@@ -16,24 +16,17 @@ use Rattle.steps.specs.Answers.{OrRefusal, refused, accepted}
 use Rattle.steps.specs.Gauge.{Meter, latest, feeds, samples}
 use Rattle.card.specs.declared.Card.{Card}
 use Rattle.interval.specs.declared.close.Closed.{Closed}
-use Rattle.interval.specs.Fields.{field}
+use Rattle.sample.specs.Fields.{field}
 use Rattle.meter.specs.declared.Meter.{Meter as Kept}
 use Rattle.meter.specs.declared.Stepped.{Stepped}
 use Rattle.meter.specs.declared.Answer.the-variants.{Done, Refused}
-use Rattle.interval.specs.Sums.{Sample}
+use Rattle.sample.specs.Sums.{Sample}
 use Rattle.meter.specs.Samples.{samplesIn}
 use Rattle.meter.specs.Sound.{Room, Phased, Sound}
 use Rattle.number.specs.Range.{in24}
-use Rattle.meter.specs.Core.{core, seen, kept, every24, samplesOf, fedOf}
+use Rattle.sample.specs.Sample.{every24}
+use Rattle.meter.specs.Core.{core, seen, kept, samplesOf, fedOf}
 use Rattle.meter.specs.Blocks.{phaseInRange, soundOf, cardOf, carded, answered, blockOf}
-
-pub every-more : (a : List ℤ) (k : ℕ) → k < length a → every24 (drop k a) ≡ in24 (getD a k (pos 0)) && every24 (drop (k + 1) a)
-unfolding every24
-every-more a k h = rw (add-one, drop-cons a k (pos 0) h)
-
-pub every-end : (a : List ℤ) (k : ℕ) → length a ≤ k → every24 (drop k a) ≡ true
-unfolding every24
-every-end a k h = rw (drop-of-length-le a {i = k} h)
 
 -- ---- a state that passes the check is sound
 both-of : (s t : Bool) → s && t ≡ true → (s ≡ true) × (t ≡ true)

@@ -10,7 +10,7 @@ use Rattle.steps.specs.Answers.{OrRefusal, refused, accepted}
 use Rattle.steps.specs.Gauge.{Meter, feeds, latest}
 use Rattle.card.specs.declared.Card.{Card}
 use Rattle.interval.specs.declared.close.Closed.{Closed}
-use Rattle.interval.specs.Fields.{field}
+use Rattle.sample.specs.Fields.{field}
 use Rattle.meter.specs.declared.Meter.{Meter as Kept}
 use Rattle.meter.specs.declared.Answer.the-variants.{Done, Refused}
 use Rattle.meter.specs.declared.Stepped.{Stepped}
@@ -21,7 +21,7 @@ unfoldable pub phaseInRange : Card → Bool
 phaseInRange c = leZ (pos 0) (field c 5) && leZ (field c 5) (pos 4095)
 
 -- whether a state is one that steps can have made: the running interval is not full, its sums are those of at most as many samples as it has, and
--- its cards are in range. Whatever a start and steps make is such a state (`proofs/Always.antt`).
+-- its cards are in range. Whatever a start and steps make is such a state (`proofs/Soundness.antt` of crate `aberzhan`).
 unfoldable pub soundOf : Kept → Bool
 soundOf m =
     let t = m .work .settings in

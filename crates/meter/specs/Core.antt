@@ -9,19 +9,14 @@ use lib.ListN.{length}
 use Rattle.steps.specs.Answers.{OrRefusal, refused, accepted}
 use Rattle.steps.specs.Gauge.{Gauge, Meter, samples, begun}
 use Rattle.card.specs.declared.Card.{Card}
-use Rattle.interval.specs.declared.sums.Sums.{Sums}
+use Rattle.sample.specs.declared.Sums.{Sums}
 use Rattle.interval.specs.declared.close.Closed.{Closed}
-use Rattle.interval.specs.Sums.{Sample, added, addedAll, emptied}
+use Rattle.sample.specs.Sample.{every24}
+use Rattle.sample.specs.Sums.{Sample, added, addedAll, emptied}
 use Rattle.interval.specs.Close.{closedOf}
 use Rattle.meter.specs.declared.Work.{Work}
 use Rattle.meter.specs.declared.Meter.{Meter as Kept}
 use Rattle.meter.specs.Samples.{samplesIn}
-use Rattle.number.specs.Range.{in24}
-
--- every sample is in the 24-bit range
-unfoldable pub every24 : List ℤ → Bool
-every24 [] = true
-every24 (z ∷ zs) = in24 z && every24 zs
 
 -- 5: slices differ in length, or over 4,096; 6: a sample outside the 24-bit range
 unfoldable pub samplesOf : List ℤ → List ℤ → OrRefusal (List Sample)

@@ -3,10 +3,10 @@ use Prim.Native.Nat.{ℕ}
 use mathlib.Core.List.{List, [], _∷_}
 use lib.IntN.{ℤ}
 use Rattle.card.specs.declared.Card.{Card}
-use Rattle.interval.specs.declared.sums.Sums.{Sums}
-use Rattle.interval.specs.Fields.{voffs, ioffs, vgain, igain, phase}
-use Rattle.interval.specs.Sample.{corrected, mixed}
-use Rattle.interval.specs.Sums.{Sample, summed, previous}
+use Rattle.sample.specs.declared.Sums.{Sums}
+use Rattle.sample.specs.Fields.{voffs, ioffs, vgain, igain, phase}
+use Rattle.sample.specs.Sample.{corrected, mixed}
+use Rattle.sample.specs.Sums.{Sample, summed, previous}
 use Rattle.meter.specs.declared.samples.Probe.{Probe}
 
 -- the samples of two slices: a voltage and a current each

@@ -4,9 +4,9 @@ use lib.IntN.{natAbs}
 use lib.Signed.{nonNeg}
 use lib.Dec.{T}
 use Rattle.card.specs.declared.Card.{Card}
-use Rattle.interval.specs.declared.sums.Flow.{Flow}
-use Rattle.interval.specs.declared.sums.Sums.{Sums}
-use Rattle.interval.specs.Fields.{field}
+use Rattle.sample.specs.declared.Flow.{Flow}
+use Rattle.sample.specs.declared.Sums.{Sums}
+use Rattle.sample.specs.Fields.{field}
 use Rattle.meter.specs.declared.Meter.{Meter}
 
 -- 70,368,744,177,664 is 2^46, the greatest square of a number of the 24-bit range: sums of at most k samples

@@ -1,30 +1,20 @@
 -- The start of a module: N 1 to 4,096, B 1 to 2^48 - 1, six words to track, each 0 or one that can be tracked; otherwise 7.
 use Prim.Native.Nat.{ℕ}
-use mathlib.Core.Bool.{Bool, true, false, cond, _&&_, _||_}
-use mathlib.Core.List.{List, [], _∷_}
-use lib.Dec.{eqb, ltb}
+use mathlib.Core.Bool.{Bool, false, cond, _&&_}
+use mathlib.Core.List.{List}
 use lib.IntN.{ℤ, pos, natAbs}
 use lib.Signed.{leZ}
 use lib.ListN.{replicate}
 use Rattle.card.specs.declared.Card.{Card}
 use Rattle.card.specs.Serials.{noSerial}
-use Rattle.interval.specs.declared.addresses.WordAddr.{WordAddr}
-use Rattle.interval.specs.Addresses.{placeOf}
-use Rattle.interval.specs.Sums.{noSums}
-use Rattle.interval.specs.Tracking.{off}
+use Rattle.address.specs.declared.WordAddr.{WordAddr}
+use Rattle.address.specs.Slots.{off, everySlot}
+use Rattle.sample.specs.Sums.{noSums}
 use Rattle.interval.specs.Close.{noneClosed}
 use Rattle.meter.specs.declared.Work.{Work}
 use Rattle.meter.specs.declared.Meter.{Meter}
 use Rattle.meter.specs.declared.Answer.the-variants.{Done, Refused}
 use Rattle.meter.specs.declared.Stepped.{Stepped}
-
--- off, or a word that can be tracked
-unfoldable pub slotOk : WordAddr → Bool
-slotOk w = eqb (w .0) 0 || ltb (placeOf w) 7
-
-unfoldable pub everySlot : List WordAddr → Bool
-everySlot [] = true
-everySlot (w ∷ ws) = slotOk w && everySlot ws
 
 -- N and B in range
 unfoldable pub numbersOk : ℤ → ℤ → Bool

@@ -11,16 +11,12 @@ ghost use Rattle.meter.specs.Starting.{freshOf, startOf, notStarted};
 mod checks;
 mod samples;
 
+use address::WordAddr;
 use card::Card;
 use card::Serial;
-use interval::addresses::WordAddr;
 use interval::close::Closed;
-use interval::close::Registers;
 use interval::close::Settings;
-use interval::close::Source;
-use interval::energy::Energy;
-use interval::sums::Sums;
-use interval::track::Ends;
+use sample::Sums;
 
 // What outlives an interval, with the sums of the one that runs. some: whether any interval has closed; last: the one that closed last.
 pub struct Work {
@@ -201,8 +197,8 @@ impl Meter {
         let n = v.len();
         if n == i.len() {
             if n <= 4096 {
-                if checks::all_in_range(v) {
-                    if checks::all_in_range(i) {
+                if sample::all_in_range(v) {
+                    if sample::all_in_range(i) {
                         if self.has_card() {
                             let m = self.feed(v, i);
                             return Stepped {
@@ -233,12 +229,9 @@ impl Meter {
 pub fn fresh(n: u32, b: u64, track: [WordAddr; 6]) -> Meter
     ensures { λ r. ⌜ r ≡ freshOf n b track ⌝ }
 {
-    let s = Serial {
-        len: 0,
-        digits: [0; 12],
-    };
+    let none = Serial::none();
     let c = Card {
-        serial: s,
+        serial: none,
         fields: [0; 8],
     };
     Meter {
@@ -251,22 +244,7 @@ pub fn fresh(n: u32, b: u64, track: [WordAddr; 6]) -> Meter
             settings: Settings { n, b, track },
             sums: Sums::none(),
             some: false,
-            last: Closed {
-                number: 0,
-                serial: s,
-                regs: Registers {
-                    vrms: 0,
-                    a: Source {
-                        figures: [0; 6],
-                        plus: Energy { count: 0, rest: 0 },
-                        minus: Energy { count: 0, rest: 0 },
-                    },
-                    ends: Ends {
-                        low: [0; 6],
-                        high: [0; 6],
-                    },
-                },
-            },
+            last: Closed::none(),
         },
     }
 }
@@ -286,7 +264,7 @@ pub fn start(n: i64, b: i64, track: [WordAddr; 6]) -> Stepped
     ensures { λ r. ⌜ r ≡ startOf n b track ⌝ }
 {
     if (1 <= n) & (n <= 4096) & (1 <= b) & (b <= 281474976710655) {
-        if checks::all_slots(track) {
+        if address::all_slots(track) {
             let m = fresh(n as u32, b as u64, track);
             return Stepped {
                 answer: Answer::Done,

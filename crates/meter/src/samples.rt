@@ -4,14 +4,13 @@ ghost use Prim.Native.Nat.{_≤_, _<_};
 ghost use lib.IntN.{ℤ, pos};
 ghost use lib.Signed.{mag};
 ghost use lib.ListN.{length, getD};
-ghost use Rattle.interval.specs.Sample.{corrected, mixed};
-ghost use Rattle.interval.specs.Sums.{joined, summed, previous, addedAll};
+ghost use Rattle.sample.specs.Sample.{corrected, mixed};
+ghost use Rattle.sample.specs.Sums.{joined, summed, previous, addedAll};
 ghost use Rattle.meter.specs.Samples.{samplesIn, probeOf, probedAll};
 ghost use Rattle.meter.specs.Sound.{Flowing, Room, Spare, Phased};
 use card::Card;
-use interval::sample;
-use interval::sums::Flow;
-use interval::sums::Sums;
+use sample::Flow;
+use sample::Sums;
 
 // The five values that a sample needs of its card.
 pub struct Probe {

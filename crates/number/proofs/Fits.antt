@@ -1,10 +1,11 @@
 -- Signed numbers of the machine: which numbers fit a width, bounds followed through an expression, and reading back from the bits.
 use mathlib.Core.Path.{_≡_, _∙_}
 use Prim.Native.Nat.{ℕ, _+_, _*_, _^_, _<_, _≤_, min}
+use native.Mathlib.Nat.{mul-le-mul}
 use native.Mathlib.Omega.{arith}
 use lib.Dec.{T, ltb, ltb→lt}
 use lib.IntN.{ℤ, pos, negsuc, natAbs, _+ℤ_, _-ℤ_, _*ℤ_}
-use lib.Signed.{mag, nonNeg, shrZ, mag-shr}
+use lib.Signed.{mag, nonNeg, natAbs-le, shrZ, mag-shr}
 use mir.Facts.{toZ-ofZ, toZ-pos, fits-natAbs}
 use mir.Syntax.{Width, w32, w64}
 use mir.Val.{Fits, SFits, hbits, toZ, ofZ}
@@ -58,6 +59,13 @@ scaled-diff-fits {a} {b} {g} h k l =
 
 pub shifted-fits : {w : Width} {z : ℤ} (m : ℕ) → SFits w z → SFits w (shrZ z m)
 shifted-fits {z = z} m h = record { sfits = omega (arith, mag-shr z m, h .sfits) }
+
+-- the size of an i32, and a product of two u32
+pub size-most : {x : ℤ} → SFits w32 x → natAbs x ≤ 2147483648
+size-most {x} h = natAbs-le x (h .sfits)
+
+pub product-room : (a b : ℕ) → a ≤ 4294967295 → b ≤ 4294967295 → a * b < 2 ^ 64
+product-room a b h k = let p : a * b ≤ 4294967295 * 4294967295 = mul-le-mul h k in omega arith
 
 -- a square is not below 0, and its size fits
 pub square-nonneg : (z : ℤ) → T (nonNeg (z *ℤ z))

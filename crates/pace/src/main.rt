@@ -3,8 +3,8 @@ ghost use Prim.Native.Nat.{_≤_};
 use aberzhan::Module;
 use aberzhan::Stepped;
 use aberzhan::answers::Answer;
-use interval::addresses::byte_addr;
-use interval::addresses::word_addr;
+use address::byte_addr;
+use address::word_addr;
 use libc::STDOUT_FILENO;
 
 // VRMS and the six figures, and both counts, by their byte addresses.

@@ -4,7 +4,7 @@ use native.Mathlib.Omega.{arith}
 use mathlib.Core.Path.{_≡_}
 use mir.Facts.{toZ-ofZ}
 use Rattle.number.specs.Sign.{squareOf}
-use Rattle.interval.specs.Sums.{summed}
+use Rattle.sample.specs.Sums.{summed}
 use Rattle.meter.proofs.Rooms.{square24}
 use borrow.Author.Needs.{needs}
 use Rattle.meter.proofs.samples.add.Statement.{statement}

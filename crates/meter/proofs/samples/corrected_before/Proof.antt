@@ -2,7 +2,7 @@
 use mir.Syntax.{w32}
 use mir.Val.{SFits}
 use mir.Facts.{toZ-ofZ}
-use Rattle.interval.specs.Sums.{previous}
+use Rattle.sample.specs.Sums.{previous}
 use borrow.Author.Needs.{needs, sfits-of}
 use Rattle.meter.proofs.samples.corrected_before.Statement.{statement}
 use Rattle.meter.proofs.samples.corrected_before.Tie as tie

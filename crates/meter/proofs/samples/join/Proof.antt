@@ -11,7 +11,7 @@ use mir.Val.{SFits}
 use mir.Facts.{toZ-ofZ}
 use Rattle.number.specs.Sign.{squareOf}
 use Rattle.number.proofs.Fits.{ranges, widen}
-use Rattle.interval.specs.Sums.{joined}
+use Rattle.sample.specs.Sums.{joined}
 use Rattle.meter.proofs.Rooms.{square24, vi-fits, vi-more}
 use Rattle.meter.proofs.samples.join.Statement.{statement}
 use Rattle.meter.proofs.samples.join.Tie as tie

@@ -10,10 +10,10 @@ use lib.Signed.{mag}
 use mir.Syntax.{w32}
 use mir.Val.{SFits, toZ, ofZ}
 use mir.Facts.{toZ-ofZ}
-use Rattle.interval.specs.Sample.{corrected, mixed}
-use Rattle.interval.proofs.Corrections.{mixed-in, corrected-in}
+use Rattle.sample.specs.Sample.{corrected, mixed}
+use Rattle.sample.proofs.Corrections.{mixed-in, corrected-in}
 use Rattle.number.proofs.Ranges.{in-fits, in-mag}
-use Rattle.interval.specs.Sums.{previous, summed}
+use Rattle.sample.specs.Sums.{previous, summed}
 use Rattle.meter.specs.Samples.{samplesIn, probedAll, probed}
 use Rattle.meter.specs.Sound.{Spare}
 use Rattle.meter.proofs.Rooms.{spare-room, spare-more, spare-at}

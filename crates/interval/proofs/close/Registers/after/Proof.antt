@@ -4,9 +4,9 @@ use Prim.Native.Nat.{_≤_}
 use mir.Syntax.{w32}
 use mir.Val.{toZ}
 use lib.IntN.{pos}
-use Rattle.interval.specs.Source.{vrmsOf}
+use Rattle.rules.specs.Source.{vrmsOf}
 use Rattle.interval.specs.Close.{registersAfter}
-use Rattle.interval.proofs.Bounds.{rms-most, small-fits, read-small}
+use Rattle.rules.proofs.Bounds.{rms-most, small-fits, read-small}
 use borrow.Author.Needs.{needs}
 use Rattle.interval.proofs.close.Registers.after.Statement.{statement}
 use Rattle.interval.proofs.close.Registers.after.Tie as tie

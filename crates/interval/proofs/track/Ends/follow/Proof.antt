@@ -10,8 +10,9 @@ use mir.Facts.{toZ-ofZ}
 use mir.Syntax.{w32}
 use mir.Val.{SFits, toZ, ofZ}
 use lib.IntN.{ℤ, pos}
-use Rattle.interval.specs.declared.addresses.WordAddr.{WordAddr}
-use Rattle.interval.specs.Tracking.{tracked, lowest, highest, slots, off, followed}
+use Rattle.address.specs.declared.WordAddr.{WordAddr}
+use Rattle.address.specs.Slots.{off}
+use Rattle.interval.specs.Tracking.{tracked, lowest, highest, slots, followed}
 use Rattle.interval.proofs.Slots.{over, over-more, over-all, over-at, over-long, slot-at}
 use Rattle.interval.proofs.track.Ends.follow.Statement.{statement}
 use Rattle.interval.proofs.track.Ends.follow.Tie as tie

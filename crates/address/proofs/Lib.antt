@@ -1,0 +1,4 @@
+-- Laws of addresses.
+pub mod Places
+pub mod Slots
+pub mod Decided

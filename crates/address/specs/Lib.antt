@@ -1,0 +1,3 @@
+-- The register table and its addresses, as document 01 has them under "Registers", and the slots that track.
+pub mod Addresses
+pub mod Slots

@@ -1,0 +1,4 @@
+-- Laws of energy.
+pub mod Buckets
+pub mod Lent
+pub mod Decided

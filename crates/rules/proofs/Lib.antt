@@ -1,0 +1,3 @@
+-- Laws of the registers' rules.
+pub mod Bounds
+pub mod Decided

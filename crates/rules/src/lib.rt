@@ -1,0 +1,115 @@
+// The registers' rules at the close of an interval.
+ghost use mathlib.Core.Path.{_≡_};
+ghost use Prim.Native.Nat.{_≤_, _*_};
+ghost use lib.IntN.{natAbs};
+ghost use Rattle.number.specs.Sign.{squareOf};
+ghost use Rattle.rules.specs.Rules.{rms, squelched, activeOf, apparentOf, factorOf, crestOf};
+ghost use Rattle.rules.specs.Source.{vrmsOf, irmsOf, wattOf, ipeakOf, six, figuresOf};
+use card::Card;
+use sample::Flow;
+
+// The root of the mean square less a square. No samples have the root 0.
+fn root_mean_square(sum: u64, n: u32, less: u64) -> u32
+    ensures { λ r. ⌜ r ≡ rms sum n less ⌝ }
+{
+    if n == 0 {
+        return 0;
+    }
+    let mean = sum / (n as u64);
+    if mean <= less {
+        return 0;
+    }
+    number::cap(number::root(mean - less))
+}
+
+fn squelch(level: i32, r: u32) -> u32
+    ensures { λ x. ⌜ x ≡ squelched (natAbs level) r ⌝ }
+{
+    if (r as u64) < number::size(level as i64) {
+        0
+    } else {
+        r
+    }
+}
+
+fn active(sum: i64, n: u32, poffs: i32) -> i32
+    ensures { λ r. ⌜ r ≡ activeOf sum n (natAbs poffs) ⌝ }
+{
+    let p = number::clip(number::toward_zero(sum, n as u64 * 8388608));
+    number::lessen(p as i64, number::size(poffs as i64)) as i32
+}
+
+fn apparent(v: u32, i: u32) -> u64
+    ensures { λ r. ⌜ r ≡ apparentOf v i ⌝ }
+{
+    (v as u64) * (i as u64) / 8388608
+}
+
+fn factor(p: i32, s: u32) -> i32
+    ensures { λ r. ⌜ r ≡ factorOf p s ⌝ }
+{
+    if s == 0 {
+        return 0;
+    }
+    let q = number::toward_zero(p as i64 * 4194304, s as u64);
+    number::held_within(q, -4194304, 4194304) as i32
+}
+
+fn crest(peak: u32, irms: u32) -> u32
+    ensures { λ r. ⌜ r ≡ crestOf peak irms ⌝ }
+{
+    if irms == 0 {
+        return 0;
+    }
+    number::cap((peak as u64) * 65536 / (irms as u64))
+}
+
+// VRMS, of the sum of the voltage squares.
+pub fn vrms(vv: u64, n: u32) -> u32
+    ensures { λ r. ⌜ r ≡ vrmsOf vv n ⌝ }
+{
+    root_mean_square(vv, n, 0)
+}
+
+fn irms(c: Card, f: Flow, n: u32) -> u32
+    ensures { λ r. ⌜ r ≡ irmsOf c f n ⌝ }
+{
+    let x = c.fields;
+    squelch(x[6], root_mean_square(f.ii, n, number::square(x[5])))
+}
+
+// P of one current source.
+pub fn watt(c: Card, f: Flow, n: u32) -> i32
+    ensures { λ r. ⌜ r ≡ wattOf c f n ⌝ }
+{
+    let x = c.fields;
+    active(f.vi, n, x[7])
+}
+
+fn ipeak(f: Flow) -> u32
+    ensures { λ r. ⌜ r ≡ ipeakOf f ⌝ }
+{
+    number::cap(f.peak as u64)
+}
+
+// The six figures in the table's order. What is at most 8,388,607 fits a register.
+fn lay(v: u32, i: u32, peak: u32, p: i32) -> [i32; 6]
+    requires { ⌜ (v ≤ 8388607) × (i ≤ 8388607) × (peak ≤ 8388607) ⌝ }
+    ensures { λ r. ⌜ r ≡ six v i peak p ⌝ }
+{
+    let s = apparent(v, i) as u32;
+    let f = factor(p, s);
+    let c = crest(peak, i);
+    [i as i32, peak as i32, p, s as i32, f, c as i32]
+}
+
+// The figures of one current source; v is VRMS, and at most 8,388,607 of it counts.
+pub fn figures(c: Card, vv: u64, f: Flow, n: u32) -> [i32; 6]
+    ensures { λ r. ⌜ r ≡ figuresOf c (vrmsOf vv n) f n ⌝ }
+{
+    let v = vrms(vv, n);
+    let i = irms(c, f, n);
+    let k = ipeak(f);
+    let p = watt(c, f, n);
+    lay(v, i, k, p)
+}

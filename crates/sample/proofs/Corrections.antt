@@ -1,0 +1,70 @@
+-- A corrected sample is in the 24-bit range, and so is a mix of two such.
+use Prim.Native.Nat.{ℕ, suc, _+_, _*_, _-_, _/_, _<_, _≤_}
+use mathlib.Core.Path.{_≡_}
+use native.Mathlib.Nat.{mul-le-mul-left, le-refl}
+use native.Mathlib.Omega.{arith}
+use lib.IntN.{ℤ, pos, negsuc, _+ℤ_, _-ℤ_, _*ℤ_}
+use lib.Signed.{mag}
+use mir.Syntax.{w16, w32, w64}
+use mir.Val.{Fits, SFits, toZ}
+use mir.Facts.{toZ-pos}
+use Rattle.number.specs.Rounding.{floorDiv}
+use Rattle.number.proofs.Signed.{up, dn, signs, neg-is, add-is, diff-is}
+use Rattle.number.proofs.Fits.{Size, size-of, size-nat, size-add, size-sub, size-mul, size-fits, ranges}
+use Rattle.number.proofs.Ranges.{clipped-mag}
+use Rattle.sample.specs.Sample.{corrected, mixed}
+
+pub corrected-in : (raw offset gain : ℤ) → mag (corrected raw offset gain) < 8388608
+unfolding corrected
+corrected-in raw offset gain = clipped-mag (floorDiv ((raw -ℤ offset) *ℤ gain) 2097152)
+
+times : (k : ℕ) (x : ℤ) → (up (pos k *ℤ x) ≡ k * up x) × (dn (pos k *ℤ x) ≡ k * dn x)
+times k (pos a) = omega arith
+times k (negsuc a) = omega (arith, neg-is (pos (k * suc a)))
+
+floor4096 : (z : ℤ) → up z ≤ 4096 * 8388607 → dn z ≤ 4096 * 8388608 → mag (floorDiv z 4096) < 8388608
+unfolding floorDiv
+floor4096 (pos a) h k = omega arith
+floor4096 (negsuc a) h k = omega arith
+
+ends : (x : ℤ) → mag x < 8388608 → (up x ≤ 8388607) × (dn x ≤ 8388608)
+ends (pos a) h = omega arith
+ends (negsuc a) h = omega arith
+
+pub mixed-in : (p : ℕ) (x y : ℤ) → p ≤ 4096 → mag x < 8388608 → mag y < 8388608 → mag (mixed p x y) < 8388608
+unfolding mixed
+mixed-in p x y h hx hy =
+    let rest : pos 4096 -ℤ pos p ≡ pos (4096 - p) = omega (arith, signs, diff-is (pos 4096) (pos p)) in
+    let s = add-is (pos (4096 - p) *ℤ x) (pos p *ℤ y) in
+    let tx = times (4096 - p) x in
+    let ty = times p y in
+    rw rest (floor4096 (pos (4096 - p) *ℤ x +ℤ pos p *ℤ y)
+    (omega (arith, s, tx, ty, mul-le-mul-left (4096 - p) (ends x hx .0), mul-le-mul-left p (ends y hy .0)))
+    (omega (arith, s, tx, ty, mul-le-mul-left (4096 - p) (ends x hx .1), mul-le-mul-left p (ends y hy .1))))
+
+-- ---- no step of the mix is beyond an i64
+weight : {p : ℕ} → Fits w16 p → Size (pos p) 65535
+weight h = size-nat (omega arith)
+
+rest : {p : ℕ} → Fits w16 p → Size (pos 4096 -ℤ pos p) (4096 + 65535)
+rest h = size-sub (size-nat (le-refl 4096)) (weight h)
+
+pub read16 : (p : ℕ) → Fits w16 p → toZ w64 p ≡ pos p
+read16 p h = toZ-pos w64 (omega arith)
+
+pub weight-fits : {p : ℕ} → Fits w16 p → SFits w64 (pos p)
+weight-fits h = size-fits (weight h) tt
+
+pub rest-fits : {p : ℕ} → Fits w16 p → SFits w64 (pos 4096 -ℤ pos p)
+rest-fits h = size-fits (rest h) tt
+
+pub now-fits : {p : ℕ} {x : ℤ} → Fits w16 p → SFits w32 x → SFits w64 ((pos 4096 -ℤ pos p) *ℤ x)
+now-fits h k = size-fits (size-mul (rest h) (size-of k)) tt
+
+pub previous-fits : {p : ℕ} {x : ℤ} → Fits w16 p → SFits w32 x → SFits w64 (pos p *ℤ x)
+previous-fits h k = size-fits (size-mul (weight h) (size-of k)) tt
+
+pub mix-fits : {p : ℕ} {x y : ℤ} → Fits w16 p → SFits w32 x → SFits w32 y → SFits w64 ((pos 4096 -ℤ pos p) *ℤ x +ℤ pos p *ℤ y)
+mix-fits h k l = size-fits (size-add (size-mul (rest h) (size-of k)) (size-mul (weight h) (size-of l))) tt
+
+pub ruleset mixing = (ranges, read16, weight-fits, rest-fits, now-fits, previous-fits, mix-fits)

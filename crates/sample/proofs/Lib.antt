@@ -1,0 +1,4 @@
+-- Laws of samples.
+pub mod Corrections
+pub mod Ranges
+pub mod Decided

@@ -1,0 +1,4 @@
+-- Samples, as document 01 has them under "From samples to an interval", 2 and 3; and the sums that an interval keeps of them.
+pub mod Fields
+pub mod Sample
+pub mod Sums

@@ -1,0 +1,34 @@
+-- What a card makes of a raw sample.
+use Prim.Native.Nat.{ℕ}
+use mathlib.Core.Bool.{Bool, true, _&&_}
+use mathlib.Core.List.{List, [], _∷_}
+use lib.IntN.{ℤ, pos, _+ℤ_, _-ℤ_, _*ℤ_}
+use Rattle.number.specs.Range.{in24, clipped}
+use Rattle.number.specs.Rounding.{floorDiv}
+use Rattle.card.specs.declared.Card.{Card}
+use Rattle.sample.specs.Fields.{voffs, ioffs, vgain, igain, phase}
+
+-- every raw sample is in the 24-bit range
+unfoldable pub every24 : List ℤ → Bool
+every24 [] = true
+every24 (z ∷ zs) = in24 z && every24 zs
+
+-- (raw - offset) times gain, divided by 2^21 rounding down, clipped
+unfoldable pub corrected : ℤ → ℤ → ℤ → ℤ
+corrected raw offset gain = clipped (floorDiv ((raw -ℤ offset) *ℤ gain) 2097152)
+
+-- ((4,096 - PHASE) times this one + PHASE times the previous one) / 4,096, rounding down
+unfoldable pub mixed : ℕ → ℤ → ℤ → ℤ
+mixed phase now previous = floorDiv ((pos 4096 -ℤ pos phase) *ℤ now +ℤ pos phase *ℤ previous) 4096
+
+-- the corrected voltage
+unfoldable pub voltage : Card → ℤ → ℤ
+voltage c raw = corrected raw (voffs c) (vgain c)
+
+-- the current, corrected but not yet mixed
+unfoldable pub current : Card → ℤ → ℤ
+current c raw = corrected raw (ioffs c) (igain c)
+
+-- the corrected current: the previous one is the previous raw sample corrected with the card now in force
+unfoldable pub phased : Card → ℤ → ℤ → ℤ
+phased c raw before = mixed (phase c) (current c raw) (current c before)

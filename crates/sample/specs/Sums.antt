@@ -1,0 +1,47 @@
+-- What is kept of the running interval's samples, one sample after another.
+use Prim.Native.Nat.{ℕ, _+_, max}
+use mathlib.Core.Bool.{Bool, true, false, cond}
+use mathlib.Core.List.{List, [], _∷_}
+use lib.IntN.{ℤ, pos, natAbs, _+ℤ_, _*ℤ_}
+use Rattle.number.specs.Sign.{squareOf}
+use Rattle.card.specs.declared.Card.{Card}
+use Rattle.sample.specs.declared.Flow.{Flow}
+use Rattle.sample.specs.declared.Sums.{Sums}
+use Rattle.sample.specs.Sample.{voltage, phased}
+
+-- a sample of corrected voltage v and corrected current i joins the sums of a current source
+unfoldable pub joined : Flow → ℤ → ℤ → Flow
+joined f v i = record { ii = f .ii + squareOf i; vi = f .vi +ℤ v *ℤ i; peak = max (f .peak) (natAbs i) }
+
+-- the previous raw current; for the module's first sample it is that sample itself
+unfoldable pub previous : Sums → ℤ → ℤ
+previous s raw = cond (s .seen) (s .raw) raw
+
+-- one sample more: corrected voltage v, corrected current i; its raw current is kept for the next
+unfoldable pub summed : Sums → ℤ → ℤ → ℤ → Sums
+summed s v i raw = record { vv = s .vv + squareOf v; flow = joined (s .flow) v i; seen = true; raw = raw }
+
+-- one sample more, of raw voltage v and raw current i, by a card
+unfoldable pub added : Card → Sums → ℤ → ℤ → Sums
+added c s v i = summed s (voltage c v) (phased c i (previous s i)) i
+
+-- a sample: its raw voltage and its raw current
+abbrev pub Sample : Type 0
+Sample = ℤ × ℤ
+
+-- samples, one after another
+unfoldable pub addedAll : Card → Sums → List Sample → Sums
+addedAll c s [] = s
+addedAll c s (x ∷ xs) = addedAll c (added c s (x .0) (x .1)) xs
+
+-- sums of nothing
+abbrev pub noFlow : Flow
+noFlow = record { ii = 0; vi = pos 0; peak = 0 }
+
+-- between two intervals only the last raw current is kept
+unfoldable pub emptied : Sums → Sums
+emptied s = record { vv = 0; flow = noFlow; seen = s .seen; raw = s .raw }
+
+-- before the module's first sample
+abbrev pub noSums : Sums
+noSums = record { vv = 0; flow = noFlow; seen = false; raw = pos 0 }

@@ -1,0 +1,81 @@
+// Samples: what a card makes of a raw one, and what is kept of the running interval's.
+ghost use mathlib.Core.Path.{_≡_};
+ghost use Rattle.sample.specs.Sample.{corrected, mixed, every24};
+ghost use Rattle.sample.specs.Sums.{emptied, noSums};
+
+// (raw - offset) times gain / 2^21, rounded down and clipped. No i32 makes it overflow.
+pub fn correct(raw: i32, offset: i32, gain: i32) -> i32
+    ensures { λ r. ⌜ r ≡ corrected raw offset gain ⌝ }
+{
+    number::clip(number::floor_div((raw as i64 - offset as i64) * gain as i64, 21))
+}
+
+// ((4,096 - phase) times now + phase times previous) / 4,096, rounded down.
+pub fn mix(phase: u16, now: i32, previous: i32) -> i64
+    ensures { λ r. ⌜ r ≡ mixed phase now previous ⌝ }
+{
+    let p = phase as i64;
+    number::floor_div((4096 - p) * now as i64 + p * previous as i64, 12)
+}
+
+// Whether every sample is in the 24-bit range. No branch a sample: a machine can test several at once.
+pub fn all_in_range(a: &[i32]) -> bool
+    ensures { λ r. ⌜ r ≡ every24 (now (a .entry)) ⌝ }
+{
+    let mut ok = true;
+    let mut k: usize = 0;
+    while k < a.len() {
+        ok = ok & number::in_range(a[k]);
+        k += 1;
+    }
+    ok
+}
+
+// Of one current source: the sum of its squares and of its products with the voltage, and its largest size.
+pub struct Flow {
+    pub ii: u64,
+    pub vi: i64,
+    pub peak: u32,
+}
+
+// vv is the sum of the voltage squares; raw is the last raw current, where one was seen.
+pub struct Sums {
+    pub vv: u64,
+    pub flow: Flow,
+    pub seen: bool,
+    pub raw: i32,
+}
+
+impl Sums {
+    // Before the module's first sample.
+    pub fn none() -> Sums
+        ensures { λ r. ⌜ r ≡ noSums ⌝ }
+    {
+        Sums {
+            vv: 0,
+            flow: Flow {
+                ii: 0,
+                vi: 0,
+                peak: 0,
+            },
+            seen: false,
+            raw: 0,
+        }
+    }
+
+    // Between two intervals.
+    pub fn emptied(self) -> Sums
+        ensures { λ r. ⌜ r ≡ emptied self ⌝ }
+    {
+        Sums {
+            vv: 0,
+            flow: Flow {
+                ii: 0,
+                vi: 0,
+                peak: 0,
+            },
+            seen: self.seen,
+            raw: self.raw,
+        }
+    }
+}
