@@ -1,6 +1,6 @@
 -- Minima and maxima of the six tracked slots.
 use Prim.Native.Nat.{ℕ}
-use mathlib.Core.Bool.{Bool, true, false, cond}
+use mathlib.Core.Bool.{Bool, cond, _||_}
 use mathlib.Core.List.{List, [], _∷_}
 use lib.IntN.{ℤ, pos}
 use lib.ListN.{getD}
@@ -14,14 +14,16 @@ use Rattle.address.specs.Slots.{off}
 unfoldable pub tracked : WordAddr → List ℤ → ℤ
 tracked w seven = getD seven (placeOf w) (pos 0)
 
--- at the first closed interval its value, then the lower, or the higher, of it and what was before, compared as signed numbers
+-- at the first closed interval its value, then the one that lies further out, of it and what was before
+unfoldable pub further : Bool → Bool → ℤ → ℤ → ℤ
+further first beyond now old = cond (first || beyond) now old
+
+-- the minimum and the maximum, compared as signed numbers
 unfoldable pub lowest : Bool → ℤ → ℤ → ℤ
-lowest true now old = now
-lowest false now old = cond (ltZ now old) now old
+lowest first now old = further first (ltZ now old) now old
 
 unfoldable pub highest : Bool → ℤ → ℤ → ℤ
-highest true now old = now
-highest false now old = cond (ltZ old now) now old
+highest first now old = further first (ltZ old now) now old
 
 -- for each of the six slots, from 0
 abbrev pub slots : (ℕ → ℤ) → List ℤ

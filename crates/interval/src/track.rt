@@ -1,6 +1,6 @@
 // Minima and maxima of the six tracked slots.
 ghost use mathlib.Core.Path.{_≡_};
-ghost use Rattle.interval.specs.Tracking.{tracked, lowest, highest, followed};
+ghost use Rattle.interval.specs.Tracking.{tracked, further, followed};
 use address::WordAddr;
 use address::place_of;
 
@@ -10,22 +10,11 @@ pub struct Ends {
     pub high: [i32; 6],
 }
 
-fn lower(first: bool, now: i32, old: i32) -> i32
-    ensures { λ r. ⌜ r ≡ lowest first now old ⌝ }
+// At the first closed interval its value, then the one that lies further out.
+fn further(first: bool, beyond: bool, now: i32, old: i32) -> i32
+    ensures { λ r. ⌜ r ≡ further first beyond now old ⌝ }
 {
-    if first {
-        return now;
-    }
-    if now < old { now } else { old }
-}
-
-fn higher(first: bool, now: i32, old: i32) -> i32
-    ensures { λ r. ⌜ r ≡ highest first now old ⌝ }
-{
-    if first {
-        return now;
-    }
-    if old < now { now } else { old }
+    if first | beyond { now } else { old }
 }
 
 // The value that a slot tracks; of a slot that is off, 0.
@@ -45,8 +34,10 @@ impl Ends {
         let mut k: usize = 0;
         while k < 6 {
             let x = tracked_of(track[k], seven);
-            low[k] = lower(first, x, low[k]);
-            high[k] = higher(first, x, high[k]);
+            let l = low[k];
+            let h = high[k];
+            low[k] = further(first, x < l, x, l);
+            high[k] = further(first, h < x, x, h);
             k += 1;
         }
         Ends { low, high }

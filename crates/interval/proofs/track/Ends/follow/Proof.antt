@@ -42,14 +42,20 @@ array-copy-out-tracked-of c = search needs
 tracked-of-requires : tie.Need-tracked-of-requires Inv-loop μ-loop
 tracked-of-requires c κs = search needs
 
-mul-lower : tie.Need-mul-lower Inv-loop μ-loop
-mul-lower c = search needs
+mul-l : tie.Need-mul-l Inv-loop μ-loop
+mul-l c = search needs
 
-array-copy-out-lower : tie.Need-array-copy-out-lower Inv-loop μ-loop
-array-copy-out-lower c = omega arith
+array-copy-out-l : tie.Need-array-copy-out-l Inv-loop μ-loop
+array-copy-out-l c = omega arith
 
-lower-requires : tie.Need-lower-requires Inv-loop μ-loop
-lower-requires c κs = search needs
+mul-h : tie.Need-mul-h Inv-loop μ-loop
+mul-h c = search needs
+
+array-copy-out-h : tie.Need-array-copy-out-h Inv-loop μ-loop
+array-copy-out-h c = omega arith
+
+further-requires : tie.Need-further-requires Inv-loop μ-loop
+further-requires c κs = search needs
 
 mul-low : tie.Need-mul-low Inv-loop μ-loop
 mul-low c = search needs
@@ -57,14 +63,8 @@ mul-low c = search needs
 array-set-from-low : tie.Need-array-set-from-low Inv-loop μ-loop
 array-set-from-low c = omega arith
 
-mul-higher : tie.Need-mul-higher Inv-loop μ-loop
-mul-higher c = search needs
-
-array-copy-out-higher : tie.Need-array-copy-out-higher Inv-loop μ-loop
-array-copy-out-higher c = omega arith
-
-higher-requires : tie.Need-higher-requires Inv-loop μ-loop
-higher-requires c κs = search needs
+further-requires-2 : tie.Need-further-requires-2 Inv-loop μ-loop
+further-requires-2 c κs = search needs
 
 mul-high : tie.Need-mul-high Inv-loop μ-loop
 mul-high c = search needs
@@ -88,38 +88,40 @@ value-is c =
     let v : SFits w32 (c .tracked-of .result) = sfits-of (c .tracked-of .ok) in
     rw (toZ-ofZ v) (c .tracked-of .ensures)
 
-low-is : (c : tie.After-lower Inv-loop μ-loop) → let top = c .before .before .before .before .before in let a = top .before .before .before .args in
-    c .lower .result ≡ lowAt (a .first) (a .seven) (a .t3) (a .self .low) (top .loop .k)
+low-is : (c : tie.After-further Inv-loop μ-loop) → let top = c .before .before .before .before .before .before in let a = top .before .before .before .args in
+    c .further .result ≡ lowAt (a .first) (a .seven) (a .t3) (a .self .low) (top .loop .k)
+unfolding lowest
 low-is c =
-    let top = c .before .before .before .before .before in
+    let top = c .before .before .before .before .before .before in
     let a = top .before .before .before .args in
     let k = top .loop .k in
     let o : SFits w32 (getD (top .loop .low) k (pos 0)) = search needs in
     let e : getD (top .loop .low) k (pos 0) ≡ getD (a .self .low) k (pos 0) = rw (top .loop .inv .1) (over-at (a .self .low) (slots (lowAt (a .first) (a .seven) (a .t3) (a .self .low))) k (pos 0) (omega arith)) in
-    c .lower .ensures ∙ rw (toZ-ofZ o, value-is (c .before .before), e)
+    c .further .ensures ∙ rw (toZ-ofZ o, value-is (c .before .before .before), e)
 
-high-is : (c : tie.After-higher Inv-loop μ-loop) → let top = c .before .before .before .before .before .before .before in let a = top .before .before .before .args in
-    c .higher .result ≡ highAt (a .first) (a .seven) (a .t3) (a .self .high) (top .loop .k)
+high-is : (c : tie.After-further2 Inv-loop μ-loop) → let top = c .before .before .before .before .before .before .before in let a = top .before .before .before .args in
+    c .further2 .result ≡ highAt (a .first) (a .seven) (a .t3) (a .self .high) (top .loop .k)
+unfolding highest
 high-is c =
     let top = c .before .before .before .before .before .before .before in
     let a = top .before .before .before .args in
     let k = top .loop .k in
     let o : SFits w32 (getD (top .loop .high) k (pos 0)) = search needs in
     let e : getD (top .loop .high) k (pos 0) ≡ getD (a .self .high) k (pos 0) = rw (top .loop .inv .2) (over-at (a .self .high) (slots (highAt (a .first) (a .seven) (a .t3) (a .self .high))) k (pos 0) (omega arith)) in
-    c .higher .ensures ∙ rw (toZ-ofZ o, value-is (c .before .before .before .before), e)
+    c .further2 .ensures ∙ rw (toZ-ofZ o, value-is (c .before .before .before .before), e)
 
 loop-less : tie.Need-loop-less Inv-loop μ-loop
 loop-less c = omega arith
 
 loop-again : tie.Need-loop-again Inv-loop μ-loop
 loop-again c =
-    let low = c .before .before in
-    let top = low .before .before .before .before .before in
+    let low = c .before in
+    let top = low .before .before .before .before .before .before in
     let a = top .before .before .before .args in
     let k = top .loop .k in
     let h : k < 6 = omega arith in
-    let l : SFits w32 (low .lower .result) = sfits-of (low .lower .ok) in
-    let u : SFits w32 (c .higher .result) = sfits-of (c .higher .ok) in
+    let l : SFits w32 (low .further .result) = sfits-of (low .further .ok) in
+    let u : SFits w32 (c .further2 .result) = sfits-of (c .further2 .ok) in
     rw (toZ-ofZ l, toZ-ofZ u) (
       omega arith,
       rw (low-is low, top .loop .inv .1) (rw (slot-at _ k h) at (over-more (a .self .low) (slots (lowAt (a .first) (a .seven) (a .t3) (a .self .low))) k (pos 0) (rw (long-low top) h) h)),
@@ -148,14 +150,14 @@ follow-spec =
     mul-tracked-of
     array-copy-out-tracked-of
     tracked-of-requires
-    mul-lower
-    array-copy-out-lower
-    lower-requires
+    mul-l
+    array-copy-out-l
+    mul-h
+    array-copy-out-h
+    further-requires
     mul-low
     array-set-from-low
-    mul-higher
-    array-copy-out-higher
-    higher-requires
+    further-requires-2
     mul-high
     array-set-from-high
     add-k
