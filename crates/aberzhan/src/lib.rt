@@ -3,20 +3,15 @@ ghost use mathlib.Core.Path.{_≡_};
 ghost use Rattle.aberzhan.specs.Inside.{isPort, deskAt, holdAt, deskPut, holdPut, waitPut, editedAt};
 ghost use Rattle.aberzhan.specs.Module.{meterPut, openOf, writeOf, commitOf, dropOf, holdOf, readOf, blockOf, notHeld, freshModule, startOf};
 ghost use Rattle.aberzhan.specs.Answers.{measured};
-
-pub mod answers;
-pub mod desks;
-pub mod holds;
-
-use answers::Answer;
 use card::Card;
 use card::Serial;
-use desks::Desk;
-use desks::Desked;
-use holds::Held;
 use interval::addresses::ByteAddr;
 use interval::addresses::WordAddr;
 use meter::Meter;
+use port::answers::Answer;
+use port::desks::Desk;
+use port::desks::Desked;
+use port::holds::Held;
 
 // What each step takes and hands back. Port k has the desk and the hold with its number.
 pub struct Module {
@@ -249,7 +244,10 @@ impl Module {
             let m = self.meter;
             let w = m.work;
             if w.some {
-                let h = Held::of(w);
+                let last = w.last;
+                let t = w.settings;
+                let track = t.track;
+                let h = Held::of(last, track);
                 let c = h.closed;
                 let serial = c.serial;
                 let holding = self.with_held(port, h);

@@ -12,10 +12,10 @@ use super::words::letters;
 use aberzhan::Holding;
 use aberzhan::Module;
 use aberzhan::Stepped;
-use aberzhan::answers::Answer;
 use card::Serial;
 use interval::addresses::byte_addr;
 use interval::addresses::word_addr;
+use port::answers::Answer;
 
 // A longer line is not read.
 const LONGEST: usize = 131071;

@@ -3,7 +3,7 @@ use mathlib.Core.Path.{_≡_, sym, _∙_}
 use mir.Facts.{toZ-ofZ}
 use mathlib.Core.Bool.{true, false}
 use Rattle.steps.specs.Module.{commit}
-use Rattle.aberzhan.specs.Desks.{cardOn}
+use Rattle.port.specs.Desks.{cardOn}
 use Rattle.aberzhan.specs.Module.{commitOf}
 use Rattle.aberzhan.specs.Inside.{isPort, deskAt}
 use Rattle.aberzhan.proofs.Steps.{finished-whole, finished-13, finished-10, refused-8, commits, commit-refused}

@@ -23,11 +23,12 @@ port c = rw (toZ-ofZ (c .before .before .fits .port)) at (sym (c .before .is-por
 
 returns : tie.Need-returns
 returns c =
-    let t = c .before .before .before .before .before .before .before in
+    let taken = c .before .before .before .before .before .before .before in
+    let t = taken .before .before .before in
     let start = t .before .before in
     let m = start .args .self in
     let p = start .args .port in
-    rw (rw (toZ-ofZ (start .fits .port)) at (c .with-held .ensures), c .before .before .before .of .ensures) (holds m p (port t) (c .before .before .before .before .if2 .taken))
+    rw (rw (toZ-ofZ (start .fits .port)) at (c .with-held .ensures), c .before .before .before .of .ensures) (holds m p (port t) (taken .if2 .taken))
 
 not-held-requires : tie.Need-not-held-requires
 not-held-requires c κs = search needs

@@ -4,9 +4,9 @@ use mir.Facts.{toZ-ofZ}
 use mathlib.Core.Bool.{true, false}
 use denote.Ref.{now}
 use Rattle.steps.specs.Module.{edit}
-use Rattle.aberzhan.specs.declared.desks.Desk.{Desk}
-use Rattle.aberzhan.specs.Desks.{openWith, opening}
-use Rattle.aberzhan.specs.Answers.{desked}
+use Rattle.port.specs.declared.desks.Desk.{Desk}
+use Rattle.port.specs.Desks.{openWith, opening}
+use Rattle.port.specs.Answers.{desked}
 use Rattle.aberzhan.specs.Module.{openOf}
 use Rattle.aberzhan.specs.Inside.{isPort, deskAt, editedAt}
 use Rattle.aberzhan.proofs.Steps.{refused-8, opens}

@@ -3,9 +3,9 @@ use mathlib.Core.Path.{_≡_, sym, ap, _∙_}
 use mir.Facts.{toZ-ofZ}
 use mathlib.Core.Bool.{true, false}
 use Rattle.steps.specs.Module.{edit}
-use Rattle.aberzhan.specs.declared.desks.Desk.{Desk}
-use Rattle.aberzhan.specs.Desks.{writeField, writing}
-use Rattle.aberzhan.specs.Answers.{desked}
+use Rattle.port.specs.declared.desks.Desk.{Desk}
+use Rattle.port.specs.Desks.{writeField, writing}
+use Rattle.port.specs.Answers.{desked}
 use Rattle.aberzhan.specs.Module.{writeOf}
 use Rattle.aberzhan.specs.Inside.{isPort, deskAt, editedAt}
 use Rattle.aberzhan.proofs.Steps.{refused-8, writes}
