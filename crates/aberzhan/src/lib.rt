@@ -1,7 +1,8 @@
 // The module: two ports that stage cards and hold readings, before the meter.
 ghost use mathlib.Core.Path.{_≡_};
+ghost use Rattle.steps.specs.Answers.{refused};
 ghost use Rattle.aberzhan.specs.Inside.{isPort, deskAt, holdAt, deskPut, holdPut, waitPut, editedAt};
-ghost use Rattle.aberzhan.specs.Module.{meterPut, openOf, writeOf, commitOf, dropOf, holdOf, readOf, blockOf, notHeld, freshModule, startOf};
+ghost use Rattle.aberzhan.specs.Module.{stepped, meterPut, openOf, writeOf, commitOf, dropOf, holdOf, readOf, blockOf, notHeld, freshModule, startOf};
 ghost use Rattle.aberzhan.specs.Answers.{measured};
 use card::Card;
 use card::Serial;
@@ -136,6 +137,16 @@ impl Module {
         Stepped { answer, after: m }
     }
 
+    // Document 01's number, and the module as it came.
+    fn refused(self, number: u8) -> Stepped
+        ensures { λ r. ⌜ r ≡ stepped self (refused number) ⌝ }
+    {
+        Stepped {
+            answer: Answer::Refused(number),
+            after: self,
+        }
+    }
+
     // Open with a serial: 8, 9, 1.
     pub fn open(self, port: i64, serial: &[u8]) -> Stepped
         ensures { λ r. ⌜ r ≡ openOf self port (now (serial .entry)) ⌝ }
@@ -145,10 +156,7 @@ impl Module {
             let did = d.open_with(serial);
             return self.at_desk(port, did);
         }
-        Stepped {
-            answer: Answer::Refused(8),
-            after: self,
-        }
+        self.refused(8)
     }
 
     // Write field, value: 8, 10, 11, 12.
@@ -160,10 +168,7 @@ impl Module {
             let did = d.write_field(field, value);
             return self.at_desk(port, did);
         }
-        Stepped {
-            answer: Answer::Refused(8),
-            after: self,
-        }
+        self.refused(8)
     }
 
     // Commit: 8, 10, 13.
@@ -183,20 +188,11 @@ impl Module {
                         after: committed,
                     };
                 }
-                return Stepped {
-                    answer: Answer::Refused(13),
-                    after: self,
-                };
+                return self.refused(13);
             }
-            return Stepped {
-                answer: Answer::Refused(10),
-                after: self,
-            };
+            return self.refused(10);
         }
-        Stepped {
-            answer: Answer::Refused(8),
-            after: self,
-        }
+        self.refused(8)
     }
 
     // Drop: 8, 10.
@@ -213,15 +209,9 @@ impl Module {
                     after: dropped,
                 };
             }
-            return Stepped {
-                answer: Answer::Refused(10),
-                after: self,
-            };
+            return self.refused(10);
         }
-        Stepped {
-            answer: Answer::Refused(8),
-            after: self,
-        }
+        self.refused(8)
     }
 
     fn not_held(self, number: u8) -> Holding
@@ -275,10 +265,7 @@ impl Module {
                 after: self,
             };
         }
-        Stepped {
-            answer: Answer::Refused(8),
-            after: self,
-        }
+        self.refused(8)
     }
 
     fn with_meter(mut self, m: Meter) -> Module

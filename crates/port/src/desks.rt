@@ -1,6 +1,7 @@
 // A port's desk: where a card is made.
 ghost use mathlib.Core.Path.{_≡_};
 ghost use Prim.Native.Nat.{_<_};
+ghost use Rattle.steps.specs.Answers.{refused};
 ghost use Rattle.port.specs.Desks.{shutDesk, emptyCard, withField, opening, writing, allWritten, cardOn};
 ghost use Rattle.port.specs.Answers.{desked};
 use super::answers::Answer;
@@ -46,15 +47,22 @@ impl Desk {
         }
     }
 
+    // Document 01's number, and the desk as it came.
+    fn refused(self, number: u8) -> Desked
+        ensures { λ r. ⌜ r ≡ desked self (refused number) ⌝ }
+    {
+        Desked {
+            answer: Answer::Refused(number),
+            after: self,
+        }
+    }
+
     // Open with a serial: 9, 1.
     pub fn open_with(self, serial: &[u8]) -> Desked
         ensures { λ r. ⌜ r ≡ desked self (opening self (now (serial .entry))) ⌝ }
     {
         if self.opened {
-            return Desked {
-                answer: Answer::Refused(9),
-                after: self,
-            };
+            return self.refused(9);
         }
         if card::is_serial(serial) {
             let s = Serial::of(serial);
@@ -64,10 +72,7 @@ impl Desk {
                 after: d,
             };
         }
-        Desked {
-            answer: Answer::Refused(1),
-            after: self,
-        }
+        self.refused(1)
     }
 
     // The field at place k of the eight, written.
@@ -93,20 +98,11 @@ impl Desk {
                         after: d,
                     };
                 }
-                return Desked {
-                    answer: Answer::Refused(12),
-                    after: self,
-                };
+                return self.refused(12);
             }
-            return Desked {
-                answer: Answer::Refused(11),
-                after: self,
-            };
+            return self.refused(11);
         }
-        Desked {
-            answer: Answer::Refused(10),
-            after: self,
-        }
+        self.refused(10)
     }
 
     // Whether each of the eight fields was written.

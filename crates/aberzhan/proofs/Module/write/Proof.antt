@@ -44,11 +44,14 @@ returns c =
 no-port : (c : tie.Else1) → isPort (c .before .before .args .port) ≡ false
 no-port c = rw (toZ-ofZ (c .before .before .fits .port)) at (sym (c .before .is-port .ensures) ∙ c .if1 .left)
 
+refused-requires : tie.Need-refused-requires
+refused-requires c κs = search needs
+
 returns-2 : tie.Need-returns-2
 unfolding writeOf
 returns-2 c =
-    let a = c .before .before .args in
-    refused-8 (a .self) (a .port) (edit (writeField (a .field) (a .value))) (no-port c)
+    let a = c .before .before .before .args in
+    c .refused .ensures ∙ refused-8 (a .self) (a .port) (edit (writeField (a .field) (a .value))) (no-port (c .before))
 
 pub write-spec : {M : Type 1} → statement M
 write-spec =
@@ -59,4 +62,5 @@ write-spec =
     write-field-requires
     at-desk-requires
     returns
+    refused-requires
     returns-2)

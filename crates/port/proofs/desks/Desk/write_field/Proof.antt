@@ -52,19 +52,30 @@ returns c =
     let put = rw (toZ-ofZ (start .fits .field), toZ-ofZ (here t .fits), here t .place, toZ-ofZ (start .fits .value), toZ-ofZ (small t)) at (c .put .ensures) in
     simp (put, t .before .before .before .if1 .taken, numbered (t .before .before), sym (asked (t .before)) ∙ t .if3 .taken)
 
+refused-requires : tie.Need-refused-requires
+refused-requires c κs = search needs
+
 returns-2 : tie.Need-returns-2
 unfolding writing
-returns-2 c = simp (c .before .before .before .if1 .taken, numbered (c .before .before), sym (asked (c .before)) ∙ c .if3 .left)
+returns-2 c =
+    let e = c .before in
+    simp (c .refused .ensures, e .before .before .before .if1 .taken, numbered (e .before .before), sym (asked (e .before)) ∙ e .if3 .left)
+
+refused-requires-2 : tie.Need-refused-requires-2
+refused-requires-2 c κs = search needs
 
 returns-3 : tie.Need-returns-3
 unfolding writing isField
 returns-3 c =
-    let start = c .before .before in
-    simp (c .before .if1 .taken, rw (toZ-ofZ (start .fits .field)) at (c .if2 .left))
+    let e = c .before in
+    simp (c .refused2 .ensures, e .before .if1 .taken, rw (toZ-ofZ (e .before .before .fits .field)) at (e .if2 .left))
+
+refused-requires-3 : tie.Need-refused-requires-3
+refused-requires-3 c κs = search needs
 
 returns-4 : tie.Need-returns-4
 unfolding writing
-returns-4 c = simp (c .if1 .left)
+returns-4 c = simp (c .refused3 .ensures, c .before .if1 .left)
 
 pub write-field-spec : {M : Type 1} → statement M
 write-field-spec =
@@ -76,6 +87,9 @@ write-field-spec =
     cast-put-2
     put-requires
     returns
+    refused-requires
     returns-2
+    refused-requires-2
     returns-3
+    refused-requires-3
     returns-4)
