@@ -231,19 +231,15 @@ impl Module {
         ensures { λ r. ⌜ r ≡ holdOf self port ⌝ }
     {
         if is_port(port) {
-            let m = self.meter;
-            let w = m.work;
+            let w = self.meter.work;
             if w.some {
-                let last = w.last;
-                let t = w.settings;
-                let track = t.track;
-                let h = Held::of(last, track);
-                let c = h.closed;
-                let serial = c.serial;
+                let track = w.settings.track;
+                let h = Held::of(w.last, track);
+                let serial = h.closed.serial;
                 let holding = self.with_held(port, h);
                 return Holding {
                     answer: Answer::Done,
-                    number: c.number,
+                    number: h.closed.number,
                     serial,
                     after: holding,
                 };
