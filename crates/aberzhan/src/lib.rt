@@ -77,8 +77,7 @@ impl Module {
         let r = meter::start(n, b, track);
         let a = r.answer;
         let answer = answer_of(a);
-        let m = r.after;
-        let after = Module::fresh(m);
+        let after = Module::fresh(r.after);
         Stepped { answer, after }
     }
 
@@ -132,9 +131,8 @@ impl Module {
         ensures { λ r. ⌜ r ≡ editedAt self port did ⌝ }
     {
         let answer = did.answer;
-        let d = did.after;
-        let m = self.with_desk(port, d);
-        Stepped { answer, after: m }
+        let after = self.with_desk(port, did.after);
+        Stepped { answer, after }
     }
 
     // Document 01's number, and the module as it came.
@@ -279,8 +277,7 @@ impl Module {
         let r = m.block(v, i);
         let a = r.answer;
         let answer = answer_of(a);
-        let n = r.after;
-        let after = self.with_meter(n);
+        let after = self.with_meter(r.after);
         Stepped { answer, after }
     }
 }
