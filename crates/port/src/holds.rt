@@ -35,6 +35,14 @@ fn slot_off(track: [WordAddr; 6], k: usize) -> bool
     w.0 == 0
 }
 
+// The value at place k of six.
+fn of_six(six: [i32; 6], k: usize) -> i64
+    requires { ⌜ k < 6 ⌝ }
+    ensures { λ x. ⌜ x ≡ getD six k (pos 0) ⌝ }
+{
+    six[k] as i64
+}
+
 // The register at place k of the table.
 fn register(r: Registers, k: usize) -> i64
     requires { ⌜ k < 21 ⌝ }
@@ -43,26 +51,22 @@ fn register(r: Registers, k: usize) -> i64
     if k == 0 {
         return r.vrms as i64;
     }
-    let a = r.a;
     if k < 7 {
-        let f = a.figures;
-        return f[k - 1] as i64;
+        let figures = r.a.figures;
+        return of_six(figures, k - 1);
     }
     if k == 7 {
-        let e = a.plus;
-        return e.count as i64;
+        return r.a.plus.count as i64;
     }
     if k == 8 {
-        let e = a.minus;
-        return e.count as i64;
+        return r.a.minus.count as i64;
     }
-    let ends = r.ends;
     if k < 15 {
-        let low = ends.low;
-        return low[k - 9] as i64;
+        let low = r.ends.low;
+        return of_six(low, k - 9);
     }
-    let high = ends.high;
-    high[k - 15] as i64
+    let high = r.ends.high;
+    of_six(high, k - 15)
 }
 
 impl Held {
@@ -114,9 +118,7 @@ impl Held {
                 if slot_off(track, k) {
                     return Answer::Refused(17);
                 }
-                let c = self.closed;
-                let regs = c.regs;
-                return Answer::Value(register(regs, k));
+                return Answer::Value(register(self.closed.regs, k));
             }
             return Answer::Refused(16);
         }

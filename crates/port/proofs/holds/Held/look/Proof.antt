@@ -23,7 +23,9 @@ register-requires c κs = search needs
 
 returns-2 : tie.Need-returns-2
 unfolding look
-returns-2 c = simp (toZ-ofZ {w = w64} (sfits-of (c .register .ok)) ∙ c .register .ensures, c .before .before .before .before .before .before .before .before .if1 .taken, sym (c .before .before .before .before .before .before .before .register-of .ensures), lt-ltb _ _ (c .before .before .before .before .before .before .if2 .taken), sym (c .before .before .before .before .slot-off .ensures) ∙ c .before .before .before .if3 .left)
+returns-2 c =
+    let e = c .before in
+    simp (toZ-ofZ {w = w64} (sfits-of (c .register .ok)) ∙ c .register .ensures, e .before .before .before .before .before .if1 .taken, sym (e .before .before .before .before .register-of .ensures), lt-ltb _ _ (e .before .before .before .if2 .taken), sym (e .before .slot-off .ensures) ∙ e .if3 .left)
 
 returns-3 : tie.Need-returns-3
 unfolding look
