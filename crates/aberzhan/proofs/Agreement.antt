@@ -23,13 +23,13 @@ use Rattle.meter.specs.Core.{core, samplesOf, seen as seenMeter}
 use Rattle.meter.specs.Blocks.{cardOf, answered, blockOf as meterBlock}
 use Rattle.meter.specs.declared.Stepped.{Stepped as Metered}
 use Rattle.meter.proofs.Agreement.{block-feeds}
-use Rattle.aberzhan.specs.declared.answers.Answer.the-variants.{Done, Refused}
-use Rattle.aberzhan.specs.declared.holds.Held.{Held}
+use Rattle.port.specs.declared.answers.Answer.the-variants.{Done, Refused}
+use Rattle.port.specs.declared.holds.Held.{Held}
 use Rattle.aberzhan.specs.declared.Module.{Module}
 use Rattle.aberzhan.specs.declared.Stepped.{Stepped}
-use Rattle.aberzhan.specs.Desks.{Edit, openWith, writeField}
-use Rattle.aberzhan.specs.Holds.{register, copied}
-use Rattle.aberzhan.specs.Reading.{registers, slotOff, look}
+use Rattle.port.specs.Desks.{Edit, openWith, writeField}
+use Rattle.port.specs.Holds.{register, copied}
+use Rattle.port.specs.Reading.{registers, slotOff, look}
 use Rattle.aberzhan.specs.Ports.{aberzhan, portAt}
 use Rattle.aberzhan.specs.Answers.{measured}
 use Rattle.aberzhan.specs.Module.{seen, answerOf, stepped, holding, meterPut, openOf, writeOf, commitOf, dropOf, holdOf, readOf, blockOf}
@@ -135,7 +135,7 @@ hold-at : (m : Module) (o : Option Port) →
     let r = holding m x in
     heldReply (r .answer) (r .number) (r .serial) ≡ reply aberzhan x
 hold-at m none = refl
-hold-at m (some s) = hold-by m s (copied (m .meter .work))
+hold-at m (some s) = (let w = m .meter .work in hold-by m s (copied (w .some) (w .last) (w .settings .track)))
 
 -- ---- a call does the step that it asks for
 pub call-replies : (k : Call) (m : Module) → SoundMeter (m .meter) → returned k m .0 ≡ reply aberzhan (step aberzhan (stepOf k) (seen m))

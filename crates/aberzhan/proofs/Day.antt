@@ -20,9 +20,9 @@ use Rattle.meter.specs.Samples.{samplesIn}
 use Rattle.meter.specs.Core.{samplesOf, lastOf, closedWork}
 use Rattle.meter.specs.Blocks.{phaseInRange, soundOf, cardOf, blockOf as meterBlock}
 use Rattle.meter.specs.Starting.{numbersOk, freshOf, startOf as meterStart}
-use Rattle.aberzhan.specs.Desks.{emptyCard, withField, opening, writing, allWritten, cardOn, finished, discarded}
-use Rattle.aberzhan.specs.Holds.{copyOf, copied}
-use Rattle.aberzhan.specs.Reading.{registers, slotOff, look}
+use Rattle.port.specs.Desks.{emptyCard, withField, opening, writing, allWritten, cardOn, finished, discarded}
+use Rattle.port.specs.Holds.{copyOf, copied}
+use Rattle.port.specs.Reading.{registers, slotOff, look}
 use Rattle.aberzhan.specs.Answers.{measured}
 use Rattle.aberzhan.specs.Ports.{portAt}
 use Rattle.aberzhan.specs.Module.{freshModule, startOf, openOf, writeOf, commitOf, dropOf, holdOf, readOf, blockOf, meterPut}

@@ -1,8 +1,6 @@
 -- Laws of the module's definitions, and the theorems about it.
 pub mod Sides
 pub mod Steps
-pub mod Registers
-pub mod Writes
 pub mod Decided
 pub mod Soundness
 pub mod Agreement
@@ -11,4 +9,3 @@ pub mod Demand3
 pub mod Energy
 pub mod Wholes
 pub mod Day
-pub mod Table

@@ -26,9 +26,9 @@ use Rattle.meter.specs.Starting.{numbersOk, freshOf, notStarted, startOf as met
 use Rattle.meter.specs.declared.Answer.the-variants.{Done as MeterDone}
 use Rattle.meter.proofs.Agreement.{feeds-sound, wait-sound}
 use Rattle.meter.proofs.Starts.{numbers-in}
-use Rattle.aberzhan.specs.declared.desks.Desk.{Desk}
+use Rattle.port.specs.declared.desks.Desk.{Desk}
 use Rattle.aberzhan.specs.declared.Module.{Module}
-use Rattle.aberzhan.specs.Desks.{Edit, openWith, writeField, shutDesk, emptyCard, withField, opening, writing, allWritten, cardOn, finished}
+use Rattle.port.specs.Desks.{Edit, openWith, writeField, shutDesk, emptyCard, withField, opening, writing, allWritten, cardOn, finished}
 use Rattle.aberzhan.specs.Ports.{aberzhan}
 use Rattle.aberzhan.specs.Module.{freshModule, startOf}
 

@@ -10,17 +10,17 @@ use Rattle.steps.specs.Port.{Port, port0, port1, on}
 use Rattle.steps.specs.Module.{Op, edit, commit, dropCard, hold, read, atPort, withDesk, didEdit, didCommit, didDrop, didHold, didRead, stepAt, step}
 use Rattle.card.specs.declared.Card.{Card}
 use Rattle.address.specs.declared.ByteAddr.{ByteAddr}
-use Rattle.aberzhan.specs.declared.answers.Answer.the-variants.{Done, Refused}
-use Rattle.aberzhan.specs.declared.desks.Desk.{Desk}
-use Rattle.aberzhan.specs.declared.holds.Held.{Held}
+use Rattle.port.specs.declared.answers.Answer.the-variants.{Done, Refused}
+use Rattle.port.specs.declared.desks.Desk.{Desk}
+use Rattle.port.specs.declared.holds.Held.{Held}
 use Rattle.aberzhan.specs.declared.Module.{Module}
 use Rattle.aberzhan.specs.declared.Stepped.{Stepped}
 use Rattle.aberzhan.specs.declared.Holding.{Holding}
-use Rattle.aberzhan.specs.Desks.{Edit, openWith, writeField, opening, writing, shutDesk, edited, finished, discarded, allWritten, cardOn}
-use Rattle.aberzhan.specs.Holds.{Value, copyOf, copied}
-use Rattle.aberzhan.specs.Reading.{look}
+use Rattle.port.specs.Desks.{Edit, openWith, writeField, opening, writing, shutDesk, edited, finished, discarded, allWritten, cardOn}
+use Rattle.port.specs.Holds.{Value, copyOf, copied}
+use Rattle.port.specs.Reading.{look}
 use Rattle.aberzhan.specs.Ports.{aberzhan, portAt}
-use Rattle.aberzhan.specs.Answers.{desked, looked}
+use Rattle.port.specs.Answers.{desked, looked}
 use Rattle.aberzhan.specs.Module.{seen, kept, stepped, holding, notHeld, openOf, writeOf, commitOf, dropOf, holdOf, readOf}
 use Rattle.aberzhan.specs.Inside.{isPort, sideOf, deskAt, holdAt, deskPut, holdPut, waitPut, editedAt}
 use Rattle.aberzhan.proofs.Sides.{at-side, no-side}
@@ -102,16 +102,16 @@ module _ (m : Module) (p : ℤ) where
     reads a = read-side m (sideOf p) a (look (holdAt m p) a) ∙ at-port (read a)
 
     -- a hold
-    held-at : (q : OrRefusal Held) → copied (m .meter .work) ≡ q → holding m (andThen q (didHold aberzhan (sideOf p) tt (seen m))) ≡ holdOf m p
+    held-at : (q : OrRefusal Held) → let w = m .meter .work in copied (w .some) (w .last) (w .settings .track) ≡ q → holding m (andThen q (didHold aberzhan (sideOf p) tt (seen m))) ≡ holdOf m p
     unfolding holdOf
     held-at q e =
         ap (λ (q : OrRefusal Held). holding m (andThen q (didHold aberzhan (sideOf p) tt (seen m)))) (sym e)
         ∙ ap (λ (o : Option Port). holding m (step aberzhan (atPort o (hold tt)) (seen m))) (sym (at-side p h))
 
-    pub holds : m .meter .work .some ≡ true → let k = copyOf (m .meter .work) in
+    pub holds : m .meter .work .some ≡ true → let k = copyOf (m .meter .work .last) (m .meter .work .settings .track) in
         _≡_ {A = Holding} (record { answer = Done; number = k .closed .number; serial = k .closed .serial; after = holdPut m p k }) (holdOf m p)
     unfolding holdPut copied
-    holds e = held-at (accepted (copyOf (m .meter .work))) (simp e)
+    holds e = held-at (accepted (copyOf (m .meter .work .last) (m .meter .work .settings .track))) (simp e)
 
     pub hold-14 : m .meter .work .some ≡ false → notHeld 14 m ≡ holdOf m p
     unfolding copied

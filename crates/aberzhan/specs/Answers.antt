@@ -1,28 +1,9 @@
--- Document 01's number and values for each answer.
-use Rattle.steps.specs.Answers.{OrRefusal, refused, accepted}
+-- The meter's answer as the module's: document 01's number is the same.
 use Rattle.meter.specs.declared.Answer.{Answer as Measured}
 use Rattle.meter.specs.declared.Answer.the-variants.{Done as MeterDone, Refused as MeterRefused}
-use Rattle.aberzhan.specs.declared.answers.Answer.{Answer}
-use Rattle.aberzhan.specs.declared.answers.Answer.the-variants.{Done, Value, Refused}
-use Rattle.aberzhan.specs.declared.desks.Desk.{Desk}
-use Rattle.aberzhan.specs.declared.desks.Desked.{Desked}
-use Rattle.aberzhan.specs.Holds.{Value as Told, interval, register}
+use Rattle.port.specs.declared.answers.Answer.{Answer}
+use Rattle.port.specs.declared.answers.Answer.the-variants.{Done, Refused}
 
--- an act at a desk; a refused one leaves the desk as it came
-abbrev pub desked : Desk → OrRefusal Desk → Desked
-desked d (refused n) = record { answer = Refused n; after = d }
-desked d (accepted e) = record { answer = Done; after = e }
-
--- what is told: a register's value. (An interval's number and serial stand beside the answer.)
-abbrev pub telling : Told → Answer
-telling (interval n s) = Done
-telling (register v) = Value v
-
-abbrev pub looked : OrRefusal Told → Answer
-looked (refused n) = Refused n
-looked (accepted t) = telling t
-
--- the meter's answer
 unfoldable pub measured : Measured → Answer
 measured MeterDone = Done
 measured (MeterRefused n) = Refused n

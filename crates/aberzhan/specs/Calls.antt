@@ -8,13 +8,13 @@ use Rattle.steps.specs.Module.{Op, edit, commit, dropCard, hold, read, Step, at
 use Rattle.steps.specs.Calls.{Reply, refuses, done, returns}
 use Rattle.card.specs.declared.Serial.{Serial}
 use Rattle.address.specs.declared.ByteAddr.{ByteAddr}
-use Rattle.aberzhan.specs.declared.answers.Answer.{Answer}
-use Rattle.aberzhan.specs.declared.answers.Answer.the-variants.{Done, Value, Refused}
+use Rattle.port.specs.declared.answers.Answer.{Answer}
+use Rattle.port.specs.declared.answers.Answer.the-variants.{Done, Value, Refused}
 use Rattle.aberzhan.specs.declared.Module.{Module}
 use Rattle.aberzhan.specs.declared.Stepped.{Stepped}
 use Rattle.aberzhan.specs.declared.Holding.{Holding}
-use Rattle.aberzhan.specs.Desks.{openWith, writeField}
-use Rattle.aberzhan.specs.Holds.{Value as Told, interval, register}
+use Rattle.port.specs.Desks.{openWith, writeField}
+use Rattle.port.specs.Holds.{Value as Told, interval, register}
 use Rattle.aberzhan.specs.Ports.{aberzhan, portAt}
 use Rattle.aberzhan.specs.Module.{openOf, writeOf, commitOf, dropOf, holdOf, readOf, blockOf}
 

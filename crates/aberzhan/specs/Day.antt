@@ -22,8 +22,8 @@ use Rattle.sample.specs.Sums.{noFlow}
 use Rattle.address.specs.Slots.{off}
 use Rattle.meter.specs.Core.{core}
 use Rattle.aberzhan.specs.declared.Module.{Module}
-use Rattle.aberzhan.specs.Desks.{Edit, openWith, writeField, shutDesk}
-use Rattle.aberzhan.specs.Holds.{Value, interval, register}
+use Rattle.port.specs.Desks.{Edit, openWith, writeField, shutDesk}
+use Rattle.port.specs.Holds.{Value, interval, register}
 use Rattle.aberzhan.specs.Ports.{ports, aberzhan}
 use Rattle.aberzhan.specs.Module.{seen, startOf}
 use Rattle.aberzhan.specs.Calls.{Call, callOpen, callWrite, callCommit, callDrop, callHold, callRead, callBlock, callOf, program}

@@ -7,9 +7,9 @@ use Rattle.steps.specs.Module.{withMeter, withDesk, withHeld}
 use Rattle.steps.specs.Gauge.{waitsFor}
 use Rattle.card.specs.declared.Card.{Card}
 use Rattle.meter.specs.Core.{core, seen as seenMeter}
-use Rattle.aberzhan.specs.declared.desks.Desk.{Desk}
-use Rattle.aberzhan.specs.declared.desks.Desked.{Desked}
-use Rattle.aberzhan.specs.declared.holds.Held.{Held}
+use Rattle.port.specs.declared.desks.Desk.{Desk}
+use Rattle.port.specs.declared.desks.Desked.{Desked}
+use Rattle.port.specs.declared.holds.Held.{Held}
 use Rattle.aberzhan.specs.declared.Module.{Module}
 use Rattle.aberzhan.specs.declared.Stepped.{Stepped}
 use Rattle.aberzhan.specs.Ports.{aberzhan}

@@ -1,7 +1,4 @@
--- The module, as document 01 has it under "Steps at the ports", "Registers" and "Numbers that say no"; and demand 3 for it.
-pub mod Desks
-pub mod Holds
-pub mod Reading
+-- The module, as document 01 has it under "Steps at the ports" and "Numbers that say no"; and demand 3 for it.
 pub mod Ports
 pub mod Answers
 pub mod Module
@@ -12,4 +9,3 @@ pub mod Demand3
 pub mod EnergyHistory
 pub mod Intervals
 pub mod Day
-pub mod Table

@@ -13,14 +13,15 @@ use Rattle.meter.specs.declared.Meter.{Meter}
 use Rattle.meter.specs.Core.{seen as seenMeter, kept as keptMeter}
 use Rattle.meter.specs.Blocks.{blockOf as meterBlock}
 use Rattle.meter.specs.Starting.{startOf as meterStart}
-use Rattle.aberzhan.specs.declared.answers.Answer.{Answer}
-use Rattle.aberzhan.specs.declared.answers.Answer.the-variants.{Done, Refused}
+use Rattle.port.specs.declared.answers.Answer.{Answer}
+use Rattle.port.specs.declared.answers.Answer.the-variants.{Done, Refused}
 use Rattle.aberzhan.specs.declared.Module.{Module}
 use Rattle.aberzhan.specs.declared.Stepped.{Stepped}
 use Rattle.aberzhan.specs.declared.Holding.{Holding}
-use Rattle.aberzhan.specs.Desks.{openWith, writeField}
-use Rattle.aberzhan.specs.Holds.{interval, register}
-use Rattle.aberzhan.specs.Answers.{telling, measured}
+use Rattle.port.specs.Desks.{openWith, writeField}
+use Rattle.port.specs.Holds.{interval, register}
+use Rattle.port.specs.Answers.{telling}
+use Rattle.aberzhan.specs.Answers.{measured}
 use Rattle.aberzhan.specs.Ports.{aberzhan, portAt}
 
 -- ---- the struct and the state are the same thing seen two ways

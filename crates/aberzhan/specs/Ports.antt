@@ -7,11 +7,11 @@ use Rattle.steps.specs.Gauge.{Ports, Meter, partsOf}
 use Rattle.card.specs.declared.Card.{Card}
 use Rattle.address.specs.declared.ByteAddr.{ByteAddr}
 use Rattle.meter.specs.Core.{core}
-use Rattle.aberzhan.specs.declared.desks.Desk.{Desk}
-use Rattle.aberzhan.specs.declared.holds.Held.{Held}
-use Rattle.aberzhan.specs.Desks.{Edit, shutDesk, edited, finished, discarded}
-use Rattle.aberzhan.specs.Holds.{Value, nothingHeld, copied, told}
-use Rattle.aberzhan.specs.Reading.{look, nothing-refuses}
+use Rattle.port.specs.declared.desks.Desk.{Desk}
+use Rattle.port.specs.declared.holds.Held.{Held}
+use Rattle.port.specs.Desks.{Edit, shutDesk, edited, finished, discarded}
+use Rattle.port.specs.Holds.{Value, nothingHeld, copied, told}
+use Rattle.port.specs.Reading.{look, nothing-refuses}
 
 -- there is one kind of hold
 abbrev pub ports : Ports (Meter core) Card
@@ -27,7 +27,7 @@ ports = record {
   finished = finished;
   discarded = discarded;
   unheld = nothingHeld;
-  copy = λ k m. copied (m .work);
+  copy = λ k m. copied (m .work .some) (m .work .last) (m .work .settings .track);
   told = λ k h. told h;
   look = look;
   unheld-refuses = nothing-refuses;

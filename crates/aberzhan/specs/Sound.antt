@@ -8,9 +8,9 @@ use Rattle.steps.specs.Answers.{accepted}
 use Rattle.sample.specs.Sums.{Sample}
 use Rattle.meter.specs.Sound.{Phased, Sound}
 use Rattle.meter.specs.Core.{samplesOf}
-use Rattle.aberzhan.specs.declared.answers.Answer.the-variants.{Done, Refused}
+use Rattle.port.specs.declared.answers.Answer.the-variants.{Done, Refused}
 use Rattle.aberzhan.specs.declared.Module.{Module}
-use Rattle.aberzhan.specs.Desks.{cardOn}
+use Rattle.port.specs.Desks.{cardOn}
 use Rattle.aberzhan.specs.Module.{blockOf}
 
 -- the meter is sound, and the PHASE written at each desk is in its range

@@ -1,22 +1,18 @@
 // The module: two ports that stage cards and hold readings, before the meter.
 ghost use mathlib.Core.Path.{_≡_};
+ghost use Rattle.steps.specs.Answers.{refused};
 ghost use Rattle.aberzhan.specs.Inside.{isPort, deskAt, holdAt, deskPut, holdPut, waitPut, editedAt};
-ghost use Rattle.aberzhan.specs.Module.{meterPut, openOf, writeOf, commitOf, dropOf, holdOf, readOf, blockOf, notHeld, freshModule, startOf};
+ghost use Rattle.aberzhan.specs.Module.{stepped, meterPut, openOf, writeOf, commitOf, dropOf, holdOf, readOf, blockOf, notHeld, freshModule, startOf};
 ghost use Rattle.aberzhan.specs.Answers.{measured};
-
-pub mod answers;
-pub mod desks;
-pub mod holds;
-
 use address::ByteAddr;
 use address::WordAddr;
-use answers::Answer;
 use card::Card;
 use card::Serial;
-use desks::Desk;
-use desks::Desked;
-use holds::Held;
 use meter::Meter;
+use port::answers::Answer;
+use port::desks::Desk;
+use port::desks::Desked;
+use port::holds::Held;
 
 // What each step takes and hands back. Port k has the desk and the hold with its number.
 pub struct Module {
@@ -81,8 +77,7 @@ impl Module {
         let r = meter::start(n, b, track);
         let a = r.answer;
         let answer = answer_of(a);
-        let m = r.after;
-        let after = Module::fresh(m);
+        let after = Module::fresh(r.after);
         Stepped { answer, after }
     }
 
@@ -136,9 +131,18 @@ impl Module {
         ensures { λ r. ⌜ r ≡ editedAt self port did ⌝ }
     {
         let answer = did.answer;
-        let d = did.after;
-        let m = self.with_desk(port, d);
-        Stepped { answer, after: m }
+        let after = self.with_desk(port, did.after);
+        Stepped { answer, after }
+    }
+
+    // Document 01's number, and the module as it came.
+    fn refused(self, number: u8) -> Stepped
+        ensures { λ r. ⌜ r ≡ stepped self (refused number) ⌝ }
+    {
+        Stepped {
+            answer: Answer::Refused(number),
+            after: self,
+        }
     }
 
     // Open with a serial: 8, 9, 1.
@@ -150,10 +154,7 @@ impl Module {
             let did = d.open_with(serial);
             return self.at_desk(port, did);
         }
-        Stepped {
-            answer: Answer::Refused(8),
-            after: self,
-        }
+        self.refused(8)
     }
 
     // Write field, value: 8, 10, 11, 12.
@@ -165,10 +166,7 @@ impl Module {
             let did = d.write_field(field, value);
             return self.at_desk(port, did);
         }
-        Stepped {
-            answer: Answer::Refused(8),
-            after: self,
-        }
+        self.refused(8)
     }
 
     // Commit: 8, 10, 13.
@@ -188,20 +186,11 @@ impl Module {
                         after: committed,
                     };
                 }
-                return Stepped {
-                    answer: Answer::Refused(13),
-                    after: self,
-                };
+                return self.refused(13);
             }
-            return Stepped {
-                answer: Answer::Refused(10),
-                after: self,
-            };
+            return self.refused(10);
         }
-        Stepped {
-            answer: Answer::Refused(8),
-            after: self,
-        }
+        self.refused(8)
     }
 
     // Drop: 8, 10.
@@ -218,15 +207,9 @@ impl Module {
                     after: dropped,
                 };
             }
-            return Stepped {
-                answer: Answer::Refused(10),
-                after: self,
-            };
+            return self.refused(10);
         }
-        Stepped {
-            answer: Answer::Refused(8),
-            after: self,
-        }
+        self.refused(8)
     }
 
     fn not_held(self, number: u8) -> Holding
@@ -246,16 +229,15 @@ impl Module {
         ensures { λ r. ⌜ r ≡ holdOf self port ⌝ }
     {
         if is_port(port) {
-            let m = self.meter;
-            let w = m.work;
+            let w = self.meter.work;
             if w.some {
-                let h = Held::of(w);
-                let c = h.closed;
-                let serial = c.serial;
+                let track = w.settings.track;
+                let h = Held::of(w.last, track);
+                let serial = h.closed.serial;
                 let holding = self.with_held(port, h);
                 return Holding {
                     answer: Answer::Done,
-                    number: c.number,
+                    number: h.closed.number,
                     serial,
                     after: holding,
                 };
@@ -277,10 +259,7 @@ impl Module {
                 after: self,
             };
         }
-        Stepped {
-            answer: Answer::Refused(8),
-            after: self,
-        }
+        self.refused(8)
     }
 
     fn with_meter(mut self, m: Meter) -> Module
@@ -298,8 +277,7 @@ impl Module {
         let r = m.block(v, i);
         let a = r.answer;
         let answer = answer_of(a);
-        let n = r.after;
-        let after = self.with_meter(n);
+        let after = self.with_meter(r.after);
         Stepped { answer, after }
     }
 }

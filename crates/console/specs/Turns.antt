@@ -7,8 +7,8 @@ use lib.IntN.{ℤ, pos}
 use lib.ListN.{length, drop, getD}
 use Rattle.card.specs.Serials.{noSerial}
 use Rattle.address.specs.Addresses.{wordAddr, byteAddr}
-use Rattle.aberzhan.specs.declared.answers.Answer.{Answer}
-use Rattle.aberzhan.specs.declared.answers.Answer.the-variants as answer
+use Rattle.port.specs.declared.answers.Answer.{Answer}
+use Rattle.port.specs.declared.answers.Answer.the-variants as answer
 use Rattle.aberzhan.specs.declared.Module.{Module}
 use Rattle.aberzhan.specs.declared.Stepped.{Stepped}
 use Rattle.aberzhan.specs.declared.Holding.{Holding}

@@ -12,10 +12,10 @@ use super::words::letters;
 use aberzhan::Holding;
 use aberzhan::Module;
 use aberzhan::Stepped;
-use aberzhan::answers::Answer;
 use address::byte_addr;
 use address::word_addr;
 use card::Serial;
+use port::answers::Answer;
 
 // A longer line is not read.
 const LONGEST: usize = 131071;

@@ -1,12 +1,12 @@
 // Runs what document 01 lists under "Run by a program": each limit, and one past it. Prints a line for each with the answer.
 use aberzhan::Module;
 use aberzhan::Stepped;
-use aberzhan::answers::Answer;
 use address::WordAddr;
 use book::Changed;
 use book::change;
 use card::Serial;
 use libc::STDOUT_FILENO;
+use port::answers::Answer;
 
 fn say(text: &[u8]) {
     io::write_all(STDOUT_FILENO, text);

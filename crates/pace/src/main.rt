@@ -2,10 +2,10 @@
 ghost use Prim.Native.Nat.{_≤_};
 use aberzhan::Module;
 use aberzhan::Stepped;
-use aberzhan::answers::Answer;
 use address::byte_addr;
 use address::word_addr;
 use libc::STDOUT_FILENO;
+use port::answers::Answer;
 
 // VRMS and the six figures, and both counts, by their byte addresses.
 const REGISTERS: [i64; 9] = [0x81, 0xBA, 0xD2, 0xE1, 0xEA, 0x12F, 0x1A1, 0x1AD, 0x1B6];

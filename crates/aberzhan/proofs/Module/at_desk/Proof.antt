@@ -10,7 +10,7 @@ with-desk-requires c κs = search needs
 
 returns : tie.Need-returns
 unfolding editedAt
-returns c = simp (c .with-desk .ensures, toZ-ofZ (c .before .before .fits .port))
+returns c = simp (c .with-desk .ensures, toZ-ofZ (c .before .fits .port))
 
 pub at-desk-spec : {M : Type 1} → statement M
 at-desk-spec = tie.close (tie.spec with-desk-requires returns)

@@ -15,7 +15,7 @@ with-meter-requires c κs = search needs
 
 returns : tie.Need-returns
 unfolding blockOf
-returns c = simp (c .with-meter .ensures, c .before .before .answer-of .ensures, c .before .before .before .block .ensures)
+returns c = simp (c .with-meter .ensures, c .before .answer-of .ensures, c .before .before .block .ensures)
 
 pub block-spec : {M : Type 1} → statement M
 block-spec = tie.close (tie.spec block-requires answer-of-requires with-meter-requires returns)

@@ -3,7 +3,7 @@ use mathlib.Core.Path.{_≡_, sym, _∙_}
 use mir.Facts.{toZ-ofZ}
 use mathlib.Core.Bool.{true, false}
 use Rattle.steps.specs.Module.{commit}
-use Rattle.aberzhan.specs.Desks.{cardOn}
+use Rattle.port.specs.Desks.{cardOn}
 use Rattle.aberzhan.specs.Module.{commitOf}
 use Rattle.aberzhan.specs.Inside.{isPort, deskAt}
 use Rattle.aberzhan.proofs.Steps.{finished-whole, finished-13, finished-10, refused-8, commits, commit-refused}
@@ -52,30 +52,41 @@ returns c =
     let written = rw e at (sym (c .before .before .before .before .before .all-written .ensures) ∙ c .before .before .before .before .if3 .taken) in
     rw (c .with-waiting .ensures, put, card) (commits m p (port (d .before)) (cardOn (deskAt m p)) (finished-whole (deskAt m p) opened written))
 
+refused-requires : tie.Need-refused-requires
+refused-requires c κs = search needs
+
 returns-2 : tie.Need-returns-2
 returns-2 c =
-    let d = c .before .before .before in
+    let e = c .before in
+    let d = e .before .before .before in
     let start = d .before .before .before in
     let m = start .args .self in
     let p = start .args .port in
-    let e = the-desk d in
-    let written = rw e at (sym (c .before .all-written .ensures) ∙ c .if3 .left) in
-    commit-refused m p (port (d .before)) 13 (finished-13 (deskAt m p) (rw e at (c .before .before .if2 .taken)) written)
+    let written = rw (the-desk d) at (sym (e .before .all-written .ensures) ∙ e .if3 .left) in
+    c .refused .ensures ∙ commit-refused m p (port (d .before)) 13 (finished-13 (deskAt m p) (rw (the-desk d) at (e .before .before .if2 .taken)) written)
+
+refused-requires-2 : tie.Need-refused-requires-2
+refused-requires-2 c κs = search needs
 
 returns-3 : tie.Need-returns-3
 returns-3 c =
-    let d = c .before in
+    let d = c .before .before in
     let start = d .before .before .before in
     let m = start .args .self in
     let p = start .args .port in
-    commit-refused m p (port (d .before)) 10 (finished-10 (deskAt m p) (rw (the-desk d) at (c .if2 .left)))
+    c .refused2 .ensures ∙ commit-refused m p (port (d .before)) 10 (finished-10 (deskAt m p) (rw (the-desk d) at (c .before .if2 .left)))
 
 no-port : (c : tie.Else1) → isPort (c .before .before .args .port) ≡ false
 no-port c = rw (toZ-ofZ (c .before .before .fits .port)) at (sym (c .before .is-port .ensures) ∙ c .if1 .left)
 
+refused-requires-3 : tie.Need-refused-requires-3
+refused-requires-3 c κs = search needs
+
 returns-4 : tie.Need-returns-4
 unfolding commitOf
-returns-4 c = refused-8 (c .before .before .args .self) (c .before .before .args .port) commit (no-port c)
+returns-4 c =
+    let a = c .before .before .before .args in
+    c .refused3 .ensures ∙ refused-8 (a .self) (a .port) commit (no-port (c .before))
 
 pub commit-spec : {M : Type 1} → statement M
 commit-spec =
@@ -89,6 +100,9 @@ commit-spec =
     with-desk-requires
     with-waiting-requires
     returns
+    refused-requires
     returns-2
+    refused-requires-2
     returns-3
+    refused-requires-3
     returns-4)

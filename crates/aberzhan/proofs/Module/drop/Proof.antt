@@ -38,20 +38,28 @@ returns c =
     let put = rw (toZ-ofZ (start .fits .port), c .before .shut .ensures) at (c .with-desk .ensures) in
     rw put (drops m p (port (d .before)) (discarded-open (deskAt m p) (rw (the-desk d) at (c .before .before .if2 .taken))))
 
+refused-requires : tie.Need-refused-requires
+refused-requires c κs = search needs
+
 returns-2 : tie.Need-returns-2
 returns-2 c =
-    let d = c .before in
+    let d = c .before .before in
     let start = d .before .before .before in
     let m = start .args .self in
     let p = start .args .port in
-    drop-refused m p (port (d .before)) 10 (discarded-10 (deskAt m p) (rw (the-desk d) at (c .if2 .left)))
+    c .refused .ensures ∙ drop-refused m p (port (d .before)) 10 (discarded-10 (deskAt m p) (rw (the-desk d) at (c .before .if2 .left)))
 
 no-port : (c : tie.Else1) → isPort (c .before .before .args .port) ≡ false
 no-port c = rw (toZ-ofZ (c .before .before .fits .port)) at (sym (c .before .is-port .ensures) ∙ c .if1 .left)
 
+refused-requires-2 : tie.Need-refused-requires-2
+refused-requires-2 c κs = search needs
+
 returns-3 : tie.Need-returns-3
 unfolding dropOf
-returns-3 c = refused-8 (c .before .before .args .self) (c .before .before .args .port) dropCard (no-port c)
+returns-3 c =
+    let a = c .before .before .before .args in
+    c .refused2 .ensures ∙ refused-8 (a .self) (a .port) dropCard (no-port (c .before))
 
 pub drop-spec : {M : Type 1} → statement M
 drop-spec =
@@ -62,5 +70,7 @@ drop-spec =
     shut-requires
     with-desk-requires
     returns
+    refused-requires
     returns-2
+    refused-requires-2
     returns-3)

@@ -23,18 +23,19 @@ port c = rw (toZ-ofZ (c .before .before .fits .port)) at (sym (c .before .is-por
 
 returns : tie.Need-returns
 returns c =
-    let t = c .before .before .before .before .before .before .before in
+    let taken = c .before .before .before .before in
+    let t = taken .before .before in
     let start = t .before .before in
     let m = start .args .self in
     let p = start .args .port in
-    rw (rw (toZ-ofZ (start .fits .port)) at (c .with-held .ensures), c .before .before .before .of .ensures) (holds m p (port t) (c .before .before .before .before .if2 .taken))
+    rw (rw (toZ-ofZ (start .fits .port)) at (c .with-held .ensures), c .before .before .of .ensures) (holds m p (port t) (taken .if2 .taken))
 
 not-held-requires : tie.Need-not-held-requires
 not-held-requires c κs = search needs
 
 returns-2 : tie.Need-returns-2
 returns-2 c =
-    let t = c .before .before .before .before in
+    let t = c .before .before .before in
     c .not-held .ensures ∙ hold-14 (t .before .before .args .self) (t .before .before .args .port) (port t) (c .before .if2 .left)
 
 not-held-requires-2 : tie.Need-not-held-requires-2

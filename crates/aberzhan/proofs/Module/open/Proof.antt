@@ -4,9 +4,9 @@ use mir.Facts.{toZ-ofZ}
 use mathlib.Core.Bool.{true, false}
 use denote.Ref.{now}
 use Rattle.steps.specs.Module.{edit}
-use Rattle.aberzhan.specs.declared.desks.Desk.{Desk}
-use Rattle.aberzhan.specs.Desks.{openWith, opening}
-use Rattle.aberzhan.specs.Answers.{desked}
+use Rattle.port.specs.declared.desks.Desk.{Desk}
+use Rattle.port.specs.Desks.{openWith, opening}
+use Rattle.port.specs.Answers.{desked}
 use Rattle.aberzhan.specs.Module.{openOf}
 use Rattle.aberzhan.specs.Inside.{isPort, deskAt, editedAt}
 use Rattle.aberzhan.proofs.Steps.{refused-8, opens}
@@ -45,13 +45,23 @@ returns c =
 no-port : (c : tie.Else1) → isPort (c .before .before .before .args .port) ≡ false
 no-port c = rw (toZ-ofZ (c .before .before .before .fits .port)) at (sym (c .before .is-port .ensures) ∙ c .if1 .left)
 
+refused-requires : tie.Need-refused-requires
+refused-requires c κs = search needs
+
 returns-2 : tie.Need-returns-2
 unfolding openOf
 returns-2 c =
-    let a = c .before .before .before .args in
-    refused-8 (a .self) (a .port) (edit (openWith (now (a .serial)))) (no-port c)
+    let a = c .before .before .before .before .args in
+    c .refused .ensures ∙ refused-8 (a .self) (a .port) (edit (openWith (now (a .serial)))) (no-port (c .before))
 
 pub open-spec : {M : Type 1} → statement M
 open-spec =
     tie.close
-    (tie.spec is-port-requires desk-requires open-with-requires at-desk-requires returns returns-2)
+    (tie.spec
+    is-port-requires
+    desk-requires
+    open-with-requires
+    at-desk-requires
+    returns
+    refused-requires
+    returns-2)

@@ -34,11 +34,14 @@ returns c =
 no-port : (c : tie.Else1) → isPort (c .before .before .args .port) ≡ false
 no-port c = rw (toZ-ofZ (c .before .before .fits .port)) at (sym (c .before .is-port .ensures) ∙ c .if1 .left)
 
+refused-requires : tie.Need-refused-requires
+refused-requires c κs = search needs
+
 returns-2 : tie.Need-returns-2
 unfolding readOf
 returns-2 c =
-    let a = c .before .before .args in
-    refused-8 (a .self) (a .port) (read (a .address)) (no-port c)
+    let a = c .before .before .before .args in
+    c .refused .ensures ∙ refused-8 (a .self) (a .port) (read (a .address)) (no-port (c .before))
 
 pub read-spec : {M : Type 1} → statement M
-read-spec = tie.close (tie.spec is-port-requires held-requires look-requires returns returns-2)
+read-spec = tie.close (tie.spec is-port-requires held-requires look-requires returns refused-requires returns-2)

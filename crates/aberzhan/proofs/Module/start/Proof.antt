@@ -17,9 +17,9 @@ fresh-requires c κs = search needs
 returns : tie.Need-returns
 unfolding startOf
 returns c =
-    let start = c .before .before .before .before in
-    let r = rw (toZ-ofZ (start .fits .n), toZ-ofZ (start .fits .b)) at (c .before .before .before .start .ensures) in
-    simp (c .fresh .ensures, c .before .before .answer-of .ensures, r)
+    let start = c .before .before .before in
+    let r = rw (toZ-ofZ (start .fits .n), toZ-ofZ (start .fits .b)) at (c .before .before .start .ensures) in
+    simp (c .fresh .ensures, c .before .answer-of .ensures, r)
 
 pub start-spec : {M : Type 1} → statement M
 start-spec = tie.close (tie.spec start-requires answer-of-requires fresh-requires returns)

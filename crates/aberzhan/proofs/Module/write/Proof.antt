@@ -3,9 +3,9 @@ use mathlib.Core.Path.{_≡_, sym, ap, _∙_}
 use mir.Facts.{toZ-ofZ}
 use mathlib.Core.Bool.{true, false}
 use Rattle.steps.specs.Module.{edit}
-use Rattle.aberzhan.specs.declared.desks.Desk.{Desk}
-use Rattle.aberzhan.specs.Desks.{writeField, writing}
-use Rattle.aberzhan.specs.Answers.{desked}
+use Rattle.port.specs.declared.desks.Desk.{Desk}
+use Rattle.port.specs.Desks.{writeField, writing}
+use Rattle.port.specs.Answers.{desked}
 use Rattle.aberzhan.specs.Module.{writeOf}
 use Rattle.aberzhan.specs.Inside.{isPort, deskAt, editedAt}
 use Rattle.aberzhan.proofs.Steps.{refused-8, writes}
@@ -44,11 +44,14 @@ returns c =
 no-port : (c : tie.Else1) → isPort (c .before .before .args .port) ≡ false
 no-port c = rw (toZ-ofZ (c .before .before .fits .port)) at (sym (c .before .is-port .ensures) ∙ c .if1 .left)
 
+refused-requires : tie.Need-refused-requires
+refused-requires c κs = search needs
+
 returns-2 : tie.Need-returns-2
 unfolding writeOf
 returns-2 c =
-    let a = c .before .before .args in
-    refused-8 (a .self) (a .port) (edit (writeField (a .field) (a .value))) (no-port c)
+    let a = c .before .before .before .args in
+    c .refused .ensures ∙ refused-8 (a .self) (a .port) (edit (writeField (a .field) (a .value))) (no-port (c .before))
 
 pub write-spec : {M : Type 1} → statement M
 write-spec =
@@ -59,4 +62,5 @@ write-spec =
     write-field-requires
     at-desk-requires
     returns
+    refused-requires
     returns-2)

@@ -1,0 +1,32 @@
+-- What a hold leaves on its port.
+use Prim.Native.Nat.{ℕ}
+use mathlib.Core.Bool.{Bool, true, false, cond}
+use mathlib.Core.List.{List}
+use lib.IntN.{ℤ}
+use lib.ListN.{replicate}
+use Rattle.steps.specs.Answers.{OrRefusal, refused, accepted}
+use Rattle.card.specs.declared.Serial.{Serial}
+use Rattle.address.specs.declared.WordAddr.{WordAddr}
+use Rattle.interval.specs.declared.close.Closed.{Closed}
+use Rattle.address.specs.Slots.{off}
+use Rattle.interval.specs.Close.{noneClosed}
+use Rattle.port.specs.declared.holds.Held.{Held}
+
+-- a port where nothing is held
+abbrev pub nothingHeld : Held
+nothingHeld = record { some = false; closed = noneClosed; track = replicate 6 off }
+
+-- hold: 14. Copies all registers as they stood at the last close, with the words that the slots track; `any`: whether an interval has closed.
+unfoldable pub copyOf : Closed → List WordAddr → Held
+copyOf last track = record { some = true; closed = last; track = track }
+
+unfoldable pub copied : Bool → Closed → List WordAddr → OrRefusal Held
+copied any last track = cond any (accepted (copyOf last track)) (refused 14)
+
+-- what a hold returns, the interval's number and its serial; and what a read returns
+pub data Value : Type 0 where
+  interval : ℕ → Serial → Value
+  register : ℤ → Value
+
+abbrev pub told : Held → Value
+told h = interval (h .closed .number) (h .closed .serial)

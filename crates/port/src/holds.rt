@@ -1,0 +1,126 @@
+// What a hold leaves on its port, and what a read answers from it.
+ghost use mathlib.Core.Path.{_≡_};
+ghost use Prim.Native.Nat.{_<_};
+ghost use lib.IntN.{pos};
+ghost use lib.ListN.{getD};
+ghost use Rattle.port.specs.Holds.{nothingHeld, copyOf};
+ghost use Rattle.port.specs.Reading.{registers, slotOff, look};
+ghost use Rattle.port.specs.Answers.{looked};
+use super::answers::Answer;
+use address::ByteAddr;
+use address::WordAddr;
+use card::Serial;
+use energy::Energy;
+use interval::close::Closed;
+use interval::close::Registers;
+use interval::close::Source;
+use interval::track::Ends;
+
+// An interval as it was closed last when the port held, with the words that its slots track. Where nothing is held, all is blank.
+pub struct Held {
+    pub some: bool,
+    pub closed: Closed,
+    pub track: [WordAddr; 6],
+}
+
+// Whether the register at place k of the table is the MIN or MAX of a slot that is off.
+fn slot_off(track: [WordAddr; 6], k: usize) -> bool
+    ensures { λ r. ⌜ r ≡ slotOff track k ⌝ }
+{
+    if k < 9 {
+        return false;
+    }
+    let w = track[(k - 9) % 6];
+    w.0 == 0
+}
+
+// The value at place k of six.
+fn of_six(six: [i32; 6], k: usize) -> i64
+    requires { ⌜ k < 6 ⌝ }
+    ensures { λ x. ⌜ x ≡ getD six k (pos 0) ⌝ }
+{
+    six[k] as i64
+}
+
+// The register at place k of the table.
+fn register(r: Registers, k: usize) -> i64
+    requires { ⌜ k < 21 ⌝ }
+    ensures { λ x. ⌜ x ≡ getD (registers r) k (pos 0) ⌝ }
+{
+    if k == 0 {
+        return r.vrms as i64;
+    }
+    if k < 7 {
+        let figures = r.a.figures;
+        return of_six(figures, k - 1);
+    }
+    if k == 7 {
+        return r.a.plus.count as i64;
+    }
+    if k == 8 {
+        return r.a.minus.count as i64;
+    }
+    if k < 15 {
+        let low = r.ends.low;
+        return of_six(low, k - 9);
+    }
+    let high = r.ends.high;
+    of_six(high, k - 15)
+}
+
+impl Held {
+    pub fn nothing() -> Held
+        ensures { λ r. ⌜ r ≡ nothingHeld ⌝ }
+    {
+        let serial = Serial::none();
+        Held {
+            some: false,
+            closed: Closed {
+                number: 0,
+                serial,
+                regs: Registers {
+                    vrms: 0,
+                    a: Source {
+                        figures: [0; 6],
+                        plus: Energy { count: 0, rest: 0 },
+                        minus: Energy { count: 0, rest: 0 },
+                    },
+                    ends: Ends {
+                        low: [0; 6],
+                        high: [0; 6],
+                    },
+                },
+            },
+            track: [WordAddr(0); 6],
+        }
+    }
+
+    // All registers as they stood at the last close, and what the slots track.
+    pub fn of(closed: Closed, track: [WordAddr; 6]) -> Held
+        ensures { λ r. ⌜ r ≡ copyOf closed track ⌝ }
+    {
+        Held {
+            some: true,
+            closed,
+            track,
+        }
+    }
+
+    // Read byte address: 15, 16, 17.
+    pub fn look(self, address: ByteAddr) -> Answer
+        ensures { λ r. ⌜ r ≡ looked (look self address) ⌝ }
+    {
+        if self.some {
+            let k = address::register_of(address);
+            if k < 21 {
+                let track = self.track;
+                if slot_off(track, k) {
+                    return Answer::Refused(17);
+                }
+                return Answer::Value(register(self.closed.regs, k));
+            }
+            return Answer::Refused(16);
+        }
+        Answer::Refused(15)
+    }
+}
