@@ -3,16 +3,11 @@ use mathlib.Core.Path.{refl, sym, _∙_}
 use Rattle.promise.specs.Determined.{Decided}
 use Rattle.meter.proofs.Meter.block.Kinds as block-k
 use Rattle.meter.proofs.Meter.block.Reads as block
-use Rattle.meter.proofs.fresh.Kinds as fresh-k
-use Rattle.meter.proofs.fresh.Reads as fresh
 use Rattle.meter.proofs.start.Kinds as start-k
 use Rattle.meter.proofs.start.Reads as start
 
 pub block-decided : Decided 2 block-k.ps block-k.r block.Pre block.Post
 block-decided = record { always = λ κs a. tt; determined = λ κs a p z z′ ws ws′ q q′. (q ∙ sym q′, refl) }
-
-pub fresh-decided : Decided 0 fresh-k.ps fresh-k.r fresh.Pre fresh.Post
-fresh-decided = record { always = λ κs a. tt; determined = λ κs a p z z′ ws ws′ q q′. (q ∙ sym q′, refl) }
 
 pub start-decided : Decided 0 start-k.ps start-k.r start.Pre start.Post
 start-decided = record { always = λ κs a. tt; determined = λ κs a p z z′ ws ws′ q q′. (q ∙ sym q′, refl) }

@@ -226,7 +226,7 @@ impl Meter {
 }
 
 // No card, no interval, counts and remainders 0.
-pub fn fresh(n: u32, b: u64, track: [WordAddr; 6]) -> Meter
+fn fresh(n: u32, b: u64, track: [WordAddr; 6]) -> Meter
     ensures { λ r. ⌜ r ≡ freshOf n b track ⌝ }
 {
     let none = Serial::none();

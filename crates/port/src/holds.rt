@@ -9,12 +9,8 @@ ghost use Rattle.port.specs.Answers.{looked};
 use super::answers::Answer;
 use address::ByteAddr;
 use address::WordAddr;
-use card::Serial;
-use energy::Energy;
 use interval::close::Closed;
 use interval::close::Registers;
-use interval::close::Source;
-use interval::track::Ends;
 
 // An interval as it was closed last when the port held, with the words that its slots track. Where nothing is held, all is blank.
 pub struct Held {
@@ -72,25 +68,10 @@ impl Held {
     pub fn nothing() -> Held
         ensures { λ r. ⌜ r ≡ nothingHeld ⌝ }
     {
-        let serial = Serial::none();
+        let closed = Closed::none();
         Held {
             some: false,
-            closed: Closed {
-                number: 0,
-                serial,
-                regs: Registers {
-                    vrms: 0,
-                    a: Source {
-                        figures: [0; 6],
-                        plus: Energy { count: 0, rest: 0 },
-                        minus: Energy { count: 0, rest: 0 },
-                    },
-                    ends: Ends {
-                        low: [0; 6],
-                        high: [0; 6],
-                    },
-                },
-            },
+            closed,
             track: [WordAddr(0); 6],
         }
     }
