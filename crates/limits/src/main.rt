@@ -2,9 +2,8 @@
 use aberzhan::Module;
 use aberzhan::Stepped;
 use aberzhan::answers::Answer;
-use book::Changed;
-use book::change;
 use card::Serial;
+use change::Changed;
 use interval::addresses::WordAddr;
 use libc::STDOUT_FILENO;
 

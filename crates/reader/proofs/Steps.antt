@@ -1,14 +1,14 @@
 -- The ways through a step, and the walk step by step: every card, every withdrawn serial, then the end.
 use Prim.Native.Nat.{ℕ, zero, suc, _+_, _*_, _-_, _<_, _≤_}
 use mathlib.Core.Path.{_≡_, refl, sym, ap, _∙_}
-use mathlib.Core.Bool.{Bool, true, false, cond, _&&_, false≢true}
+use mathlib.Core.Bool.{true, false, _&&_}
 use mathlib.Core.List.{List}
 use native.Mathlib.Omega.{arith}
-use lib.Dec.{eqb, leb, ltb}
+use lib.Dec.{eqb, leb}
 use lib.ListN.{length}
 use borrow.Author.Tests.{lt-ltb, le-ltb, le-leb, eq-eqb, ne-eqb, eqb-true}
 use Rattle.card.specs.Every.{and-left, and-right}
-use Rattle.book.specs.Sections.{placeOf, endOf, sectionOk}
+use Rattle.section.specs.Sections.{placeOf, endOf, sectionOk}
 use Rattle.book.specs.Book.{cards, withdrawn, sized, wellFormed}
 use Rattle.reader.specs.declared.Step.{Step}
 use Rattle.reader.specs.Walk.{pastCount, noStep, cardStep, serialStep, stepAt, placeAfter}

@@ -1,10 +1,10 @@
 -- What a reader finds at a place of a book, and where it goes on.
 use Prim.Native.Nat.{ℕ, zero, suc, _+_}
-use mathlib.Core.Bool.{Bool, true, false, cond}
+use mathlib.Core.Bool.{true, false, cond}
 use mathlib.Core.List.{List}
 use lib.Dec.{eqb, leb, ltb}
 use lib.ListN.{length}
-use Rattle.book.specs.Sections.{endOf}
+use Rattle.section.specs.Sections.{endOf}
 use Rattle.book.specs.Book.{cards, withdrawn}
 use Rattle.reader.specs.declared.Step.{Step}
 

@@ -1,12 +1,11 @@
 -- `step_at` meets its contract.
-use native.Mathlib.Omega.{arith}
-use mathlib.Core.Path.{_≡_, refl, sym, ap, _∙_}
-use Prim.Native.Nat.{ℕ, _+_, _*_}
+use mathlib.Core.Path.{_≡_, ap, _∙_}
+use Prim.Native.Nat.{_+_, _*_}
 use denote.Ref.{now}
-use Rattle.book.specs.Sections.{endOf}
+use Rattle.section.specs.Sections.{endOf}
 use Rattle.book.specs.Book.{cards, withdrawn}
-use Rattle.book.specs.declared.Section.{Section}
-use Rattle.reader.specs.Walk.{pastCount, cardStep, serialStep, noStep}
+use Rattle.section.specs.declared.Section.{Section}
+use Rattle.reader.specs.Walk.{pastCount}
 use Rattle.reader.proofs.Steps.{at-card, at-serial, at-end}
 use borrow.Author.Needs.{needs}
 use Rattle.reader.proofs.step_at.Statement.{statement}
