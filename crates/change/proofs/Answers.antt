@@ -24,7 +24,7 @@ use Rattle.book.specs.Book.{cards, withdrawn, wellFormed, Sized}
 use Rattle.book.proofs.Answers.{ask-none, ask-within}
 use Rattle.book.proofs.Sections.{formed-sized}
 use Rattle.change.specs.Answers.{changedAnswer}
-use Rattle.change.specs.Change.{bookIn, Takes, roomFor, addAnswer, withdrawAnswer}
+use Rattle.change.specs.Change.{bookIn, Takes, roomFor, Ready, addAnswer, withdrawAnswer}
 use Rattle.change.specs.declared.Changed.{Changed}
 use Rattle.change.specs.declared.Changed.the-variants as changed
 use Rattle.change.proofs.Changed as Changed-type
@@ -97,22 +97,42 @@ withdraws b used t e =
     let e₂ = ask-none (bookIn b used) 1 _ (e₁ .1) in
     record { serial = e₁ .0; book = holds b used (e₂ .0); room = room-has _ _ 512 t (length b) (e₂ .1) }
 
--- the buffer takes the entry
-pub takes-card : (b : List ℕ) (used : ℕ) (t : List ℕ) (f : List ℤ) → length f ≡ 8 → Adds b used t f → Takes b used (cards (take used b)) (cardBytes (serialOf t) f)
-takes-card b used t f eight a =
-    let z = a .book .sizes .whole in
-    let n = length-card (serialOf t) f (twelve-places t (a .serial)) eight in
-    record { counted = omega arith; inside = omega (arith, z, a .book .long); room = omega (arith, a .room .fits, a .book .long, n); few = omega (arith, a .room .few) }
-
-pub takes-serial : (b : List ℕ) (used : ℕ) (t : List ℕ) → Withdraws b used t → Takes b used (withdrawn (take used b)) (serialBytes (serialOf t))
-takes-serial b used t a =
-    let z = a .book .sizes .whole in
-    let n = length-bytes t (a .serial) in
-    record { counted = omega arith; inside = omega (arith, z, a .book .long); room = omega (arith, a .room .fits, a .book .long, n); few = omega (arith, a .room .few) }
-
+-- ---- the entry is ready for the buffer
 -- a book of the right size is short
 pub short-book : (b : List ℕ) → Sized b → length b ≤ 44548
 short-book b z = omega (arith, z .whole, z .few-cards, z .few-withdrawn)
+
+module _ (b : List ℕ) (used : ℕ) (t : List ℕ) (h : Holds b used) (serial : isSerial t ≡ true) where
+  pub ready-card : (f : List ℤ) → length f ≡ 8 → Ready b used (cards (take used b)) 1024 (cardBytes (serialOf t) f)
+  ready-card f eight =
+      record {
+        counted = omega arith;
+        inside = omega (arith, h .sizes .whole, h .long);
+        within = h .within;
+        short = omega (arith, short-book _ (h .sizes), h .long);
+        entry = length-card (serialOf t) f (twelve-places t serial) eight;
+        small = omega arith;
+        bound = omega arith;
+      }
+
+  pub ready-serial : Ready b used (withdrawn (take used b)) 512 (serialBytes (serialOf t))
+  ready-serial =
+      record {
+        counted = omega arith;
+        inside = omega (arith, h .sizes .whole, h .long);
+        within = h .within;
+        short = omega (arith, short-book _ (h .sizes), h .long);
+        entry = length-bytes t serial;
+        small = omega arith;
+        bound = omega arith;
+      }
+
+-- and where there is room the buffer takes it
+pub takes : (b : List ℕ) (used : ℕ) (s : Section) (limit : ℕ) (t x : List ℕ) → Ready b used s limit x → roomFor (take used b) s limit t (length b) .number ≡ 0 → Takes b used s x
+takes b used s limit t x r e =
+    let h = room-has (take used b) s limit t (length b) e in
+    let long = length-take-le used b (r .within) in
+    record { counted = r .counted; inside = r .inside; room = omega (arith, h .fits, long, r .entry); few = omega (arith, h .few, r .bound) }
 
 -- ---- no answer is beyond the buffer
 room-within : (b : List ℕ) (s : Section) (limit : ℕ) (t : List ℕ) (room : ℕ) → roomFor b s limit t room .value ≤ room

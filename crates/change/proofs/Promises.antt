@@ -19,7 +19,7 @@ use Rattle.section.specs.Sections.{placeOf, endOf, entryAt, serialAt, entryOk, 
 use Rattle.book.specs.Book.{cards, withdrawn, sized, Sized, wellFormed}
 use Rattle.book.specs.Answers.{Answer, accepted, ask}
 use Rattle.book.specs.Lookup.{seekOf, lookupOf, cardPart}
-use Rattle.change.specs.Change.{withEntry, roomFor, addAnswer, added, withdrawAnswer, afterWithdraw}
+use Rattle.change.specs.Change.{withEntry, roomFor, bufferAfter, addAnswer, added, withdrawAnswer, afterWithdraw}
 use Rattle.change.specs.Promises.{CardAdded, SerialWithdrawn, AddKeeps, WithdrawKeeps}
 use Rattle.section.specs.declared.Section.{Section}
 use Rattle.section.proofs.Sections.{serial-first}
@@ -255,7 +255,7 @@ unfolding addAnswer
 add-value b used t f a = simp (a .serial, a .values, a .book .test) (room-value (take used b) (cards (take used b)) 1024 t (length b) (a .room))
 
 pub add-keeps : AddKeeps
-unfolding added
+unfolding added bufferAfter
 add-keeps b used t f eight e =
     let a = adds b used t f e in
     let old = take used b in
@@ -272,7 +272,7 @@ unfolding withdrawAnswer
 withdraw-value b used t a = simp (a .serial, a .book .test) (room-value (take used b) (withdrawn (take used b)) 512 t (length b) (a .room))
 
 pub withdraw-keeps : WithdrawKeeps
-unfolding afterWithdraw
+unfolding afterWithdraw bufferAfter
 withdraw-keeps b used t e =
     let a = withdraws b used t e in
     let old = take used b in

@@ -1,5 +1,6 @@
 -- Adding a card and withdrawing a serial: the answer, and what the lent buffer holds then.
 use Prim.Native.Nat.{ℕ, _+_, _-_, _*_, _/_, _%_, _≤_, _<_}
+use mathlib.Core.Path.{_≡_}
 use mathlib.Core.Bool.{Bool, cond, not, _&&_}
 use mathlib.Core.List.{List, [], _∷_, _++_}
 use lib.IntN.{ℤ}
@@ -41,6 +42,20 @@ roomFor b s limit t room =
     (ask (leb (length b + s .size) room) 21
     (accepted (length b + s .size))))
 
+-- where such an entry is ready for the buffer: the section lies behind its count in the book of used bytes, and x is an entry of its size
+pub record Ready (b : List ℕ) (used : ℕ) (s : Section) (limit : ℕ) (x : List ℕ) : Type 0 where
+  pub counted : 2 ≤ s .base
+  pub inside : endOf s ≤ used
+  pub within : used ≤ length b
+  pub short : used ≤ 44548
+  pub entry : length x ≡ s .size
+  pub small : s .size ≤ 37
+  pub bound : limit ≤ 1024
+
+-- what the buffer b holds after an answer: where it accepts, the new book at the front, and bytes past it stay; else what it held
+unfoldable pub bufferAfter : Answer → List ℕ → List ℕ → List ℕ
+bufferAfter a b new = cond (eqb (a .number) 0) (put b 0 new) b
+
 -- ---- adding the card with the serial t and the values f, its checks in order
 unfoldable pub addAnswer : List ℕ → ℕ → List ℕ → List ℤ → Answer
 addAnswer b used t f =
@@ -49,12 +64,8 @@ addAnswer b used t f =
     (ask (bookIn b used) 2
     (roomFor (take used b) (cards (take used b)) 1024 t (length b))))
 
--- the new book at the front of the buffer, where it is accepted; bytes past it stay
 unfoldable pub added : List ℕ → ℕ → List ℕ → List ℤ → List ℕ
-added b used t f =
-    cond (eqb (addAnswer b used t f .number) 0)
-    (put b 0 (withEntry (take used b) (cards (take used b)) (cardBytes (serialOf t) f)))
-    b
+added b used t f = bufferAfter (addAnswer b used t f) b (withEntry (take used b) (cards (take used b)) (cardBytes (serialOf t) f))
 
 -- ---- withdrawing the serial t, its checks in order
 unfoldable pub withdrawAnswer : List ℕ → ℕ → List ℕ → Answer
@@ -64,7 +75,4 @@ withdrawAnswer b used t =
     (roomFor (take used b) (withdrawn (take used b)) 512 t (length b)))
 
 unfoldable pub afterWithdraw : List ℕ → ℕ → List ℕ → List ℕ
-afterWithdraw b used t =
-    cond (eqb (withdrawAnswer b used t .number) 0)
-    (put b 0 (withEntry (take used b) (withdrawn (take used b)) (serialBytes (serialOf t))))
-    b
+afterWithdraw b used t = bufferAfter (withdrawAnswer b used t) b (withEntry (take used b) (withdrawn (take used b)) (serialBytes (serialOf t)))

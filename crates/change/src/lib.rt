@@ -5,11 +5,8 @@ ghost use Prim.Native.Nat.{_+_, _-_, _≤_};
 ghost use lib.ListN.{length, take};
 ghost use lib.Dec.{eqb};
 ghost use Rattle.card.specs.Places.{part, put};
-ghost use Rattle.card.specs.Serials.{serialOf, serialBytes};
-ghost use Rattle.card.specs.Cards.{cardBytes};
-ghost use Rattle.book.specs.Book.{cards, withdrawn};
 ghost use Rattle.change.specs.Answers.{changedAnswer};
-ghost use Rattle.change.specs.Change.{bookIn, countBytes, withEntry, Takes, roomFor, addAnswer, added, withdrawAnswer, afterWithdraw};
+ghost use Rattle.change.specs.Change.{bookIn, countBytes, withEntry, Takes, roomFor, Ready, bufferAfter, addAnswer, added, withdrawAnswer, afterWithdraw};
 
 // What adding or withdrawing comes to.
 pub enum Changed {
@@ -94,9 +91,23 @@ fn accepted(answer: Changed) -> bool
     }
 }
 
-// The answer of adding.
-fn add_answer(buffer: &[u8], used: usize, text: &[u8], values: [i64; 8]) -> Changed
-    ensures { λ r. ⌜ changedAnswer r ≡ addAnswer (now (buffer .entry)) used (now (text .entry)) values ⌝ }
+// Puts an entry with the serial of this text last in a section of the book in the first used bytes, where the section takes it.
+fn enter(buffer: &mut [u8], used: usize, s: Section, limit: usize, text: &[u8], x: &[u8]) -> Changed
+    requires { ⌜ Ready (now buffer) used s limit (now x) ⌝ }
+    ensures { λ r. ⌜ (changedAnswer r ≡ roomFor (take used (now (buffer .entry))) s limit (now (text .entry)) (length (now (buffer .entry)))) × (now (buffer .exit) ≡ bufferAfter (roomFor (take used (now (buffer .entry))) s limit (now (text .entry)) (length (now (buffer .entry)))) (now (buffer .entry)) (withEntry (take used (now (buffer .entry))) s (now (x .entry)))) ⌝ }
+{
+    let room = buffer.len();
+    let answer = room_for(&buffer[0..used], s, limit, text, room);
+    if !accepted(answer) {
+        return answer;
+    }
+    insert(buffer, used, s, x);
+    answer
+}
+
+// Adds the card with a serial and eight values to the book in the first used bytes of a buffer: the new length, or the refusal.
+pub fn add(buffer: &mut [u8], used: usize, text: &[u8], values: [i64; 8]) -> Changed
+    ensures { λ r. ⌜ (changedAnswer r ≡ addAnswer (now (buffer .entry)) used (now (text .entry)) values) × (now (buffer .exit) ≡ added (now (buffer .entry)) used (now (text .entry)) values) ⌝ }
 {
     if !card::is_serial(text) {
         return Changed::NotSerial;
@@ -104,67 +115,25 @@ fn add_answer(buffer: &[u8], used: usize, text: &[u8], values: [i64; 8]) -> Chan
     if !card::values_fit(values) {
         return Changed::OutOfRange;
     }
-    if !book_in(buffer, used) {
+    if !book_in(&*buffer, used) {
         return Changed::Malformed;
     }
-    let b = &buffer[0..used];
-    room_for(b, book::cards(b), 1024, text, buffer.len())
-}
-
-// Puts the card last among the cards.
-fn put_card(buffer: &mut [u8], used: usize, text: &[u8], values: [i64; 8])
-    requires { ⌜ Takes (now buffer) used (cards (take used (now buffer))) (cardBytes (serialOf (now text)) values) ⌝ }
-    ensures { λ _. ⌜ now (buffer .exit) ≡ put (now (buffer .entry)) 0 (withEntry (take used (now (buffer .entry))) (cards (take used (now (buffer .entry)))) (cardBytes (serialOf (now (text .entry))) values)) ⌝ }
-{
     let s = book::cards(&buffer[0..used]);
     let x = card::card_bytes(card::Serial::of(text), values);
-    insert(buffer, used, s, &x);
-}
-
-// Adds the card with a serial and eight values to the book in the first used bytes of a buffer: the new length, or the refusal.
-pub fn add(buffer: &mut [u8], used: usize, text: &[u8], values: [i64; 8]) -> Changed
-    ensures { λ r. ⌜ (changedAnswer r ≡ addAnswer (now (buffer .entry)) used (now (text .entry)) values) × (now (buffer .exit) ≡ added (now (buffer .entry)) used (now (text .entry)) values) ⌝ }
-{
-    let answer = add_answer(&*buffer, used, text, values);
-    if !accepted(answer) {
-        return answer;
-    }
-    put_card(buffer, used, text, values);
-    answer
-}
-
-// The answer of withdrawing.
-fn withdraw_answer(buffer: &[u8], used: usize, text: &[u8]) -> Changed
-    ensures { λ r. ⌜ changedAnswer r ≡ withdrawAnswer (now (buffer .entry)) used (now (text .entry)) ⌝ }
-{
-    if !card::is_serial(text) {
-        return Changed::NotSerial;
-    }
-    if !book_in(buffer, used) {
-        return Changed::Malformed;
-    }
-    let b = &buffer[0..used];
-    room_for(b, book::withdrawn(b), 512, text, buffer.len())
-}
-
-// Puts the serial last among the withdrawn.
-fn put_serial(buffer: &mut [u8], used: usize, text: &[u8])
-    requires { ⌜ Takes (now buffer) used (withdrawn (take used (now buffer))) (serialBytes (serialOf (now text))) ⌝ }
-    ensures { λ _. ⌜ now (buffer .exit) ≡ put (now (buffer .entry)) 0 (withEntry (take used (now (buffer .entry))) (withdrawn (take used (now (buffer .entry)))) (serialBytes (serialOf (now (text .entry))))) ⌝ }
-{
-    let s = book::withdrawn(&buffer[0..used]);
-    let x = card::Serial::of(text).bytes();
-    insert(buffer, used, s, &x);
+    enter(buffer, used, s, 1024, text, &x)
 }
 
 // Withdraws a serial in the book in the first used bytes of a buffer: the new length, or the refusal.
 pub fn withdraw(buffer: &mut [u8], used: usize, text: &[u8]) -> Changed
     ensures { λ r. ⌜ (changedAnswer r ≡ withdrawAnswer (now (buffer .entry)) used (now (text .entry))) × (now (buffer .exit) ≡ afterWithdraw (now (buffer .entry)) used (now (text .entry))) ⌝ }
 {
-    let answer = withdraw_answer(&*buffer, used, text);
-    if !accepted(answer) {
-        return answer;
+    if !card::is_serial(text) {
+        return Changed::NotSerial;
     }
-    put_serial(buffer, used, text);
-    answer
+    if !book_in(&*buffer, used) {
+        return Changed::Malformed;
+    }
+    let s = book::withdrawn(&buffer[0..used]);
+    let x = card::Serial::of(text).bytes();
+    enter(buffer, used, s, 512, text, &x)
 }

@@ -104,12 +104,12 @@ fn same_at(b: &[u8], at: usize, key: &[u8; 13]) -> bool
     requires { ⌜ at + 13 ≤ length (now b) ⌝ }
     ensures { λ r. ⌜ r ≡ same (part (now (b .entry)) at 13) (now (key .entry)) ⌝ }
 {
-    let mut k = 0;
-    while k < 13 {
-        if b[at + k] != key[k] {
+    let mut agree = 0;
+    while agree < 13 {
+        if b[at + agree] != key[agree] {
             return false;
         }
-        k += 1;
+        agree += 1;
     }
     true
 }

@@ -37,11 +37,11 @@ unfolding same
 returns c =
     let d = c .before .before .before .before in
     let a = d .before .args in
-    let l : d .loop .k < 13 = c .before .before .before .loop-test .taken in
-    sym (every-fails _ 13 (d .loop .k) l (ne-eqb _ _ (λ q. c .if1 .taken (sym (part-at (now (a .b)) (a .at) 13 (d .loop .k) l) ∙ q))))
+    let l : d .loop .agree < 13 = c .before .before .before .loop-test .taken in
+    sym (every-fails _ 13 (d .loop .agree) l (ne-eqb _ _ (λ q. c .if1 .taken (sym (part-at (now (a .b)) (a .at) 13 (d .loop .agree) l) ∙ q))))
 
-add-k : tie.Need-add-k Inv-loop μ-loop
-add-k c = search needs
+add-agree : tie.Need-add-agree Inv-loop μ-loop
+add-agree c = search needs
 
 loop-less : tie.Need-loop-less Inv-loop μ-loop
 loop-less c = search needs
@@ -50,13 +50,13 @@ loop-again : tie.Need-loop-again Inv-loop μ-loop
 loop-again c =
     let d = c .before .before .before .before in
     let a = d .before .args in
-    let l : d .loop .k < 13 = c .before .before .before .loop-test .taken in
-    (omega arith, every-more _ _ (d .loop .inv .1) (eq-eqb _ _ (part-at (now (a .b)) (a .at) 13 (d .loop .k) l ∙ c .if1 .left)))
+    let l : d .loop .agree < 13 = c .before .before .before .loop-test .taken in
+    (omega arith, every-more _ _ (d .loop .inv .1) (eq-eqb _ _ (part-at (now (a .b)) (a .at) 13 (d .loop .agree) l ∙ c .if1 .left)))
 
 returns-2 : tie.Need-returns-2 Inv-loop μ-loop
 unfolding same
 returns-2 c =
-    let e : c .before .loop .k ≡ 13 = omega arith in
+    let e : c .before .loop .agree ≡ 13 = omega arith in
     sym (rw e at (c .before .loop .inv .1))
 
 pub same-at-spec : {M : Type 1} → statement M
@@ -70,7 +70,7 @@ same-at-spec =
     shared-slice-read-if1
     element-copy-out-if1
     returns
-    add-k
+    add-agree
     loop-less
     loop-again
     returns-2)
