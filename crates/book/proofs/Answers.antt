@@ -1,35 +1,23 @@
--- Laws of the answers: what an arm that is none of the accepted ones knows, and what an accepted answer says of the checks.
+-- Laws of the answers: what an arm that is no place knows, what an accepted answer says of the checks, and that no place is beyond the book.
 use Prim.Native.Nat.{ℕ, suc, _+_, _≤_, _<_}
 use mathlib.Core.Path.{_≡_, refl, sym, ap}
 use mathlib.Core.Bool.{Bool, true, false, not}
 use mathlib.Core.List.{List, [], _∷_}
 use mathlib.Core.Logic.{⊎-elim}
 use native.Mathlib.Omega.{arith}
-use lib.IntN.{ℤ}
-use lib.ListN.{length, take}
-use lib.Seq.{length-take-le}
-use lib.Dec.{leb, ltb, eqb}
+use lib.ListN.{length}
+use lib.Dec.{eqb}
 use types.Run.{OneOf}
 use denote.Enum.Declared.{tagOf}
-use borrow.Author.Tests.{not-true, ltb-true, leb-true}
-use Rattle.card.specs.Every.{and-left, and-right}
-use Rattle.card.specs.Serials.{isSerial, serialOf, serialBytes}
-use Rattle.card.specs.Fields.{valuesFit}
-use Rattle.card.specs.Cards.{cardBytes}
-use Rattle.card.proofs.Serials.{length-bytes}
-use Rattle.card.proofs.RoundTrip.{length-card, twelve-places}
-use Rattle.book.specs.Sections.{placeOf, findIn, has}
-use Rattle.book.specs.Book.{cards, withdrawn, wellFormed, Sized}
-use Rattle.book.specs.Answers.{Answer, accepted, ask, foundAnswer, changedAnswer}
+use borrow.Author.Tests.{not-true, ltb-true}
+use Rattle.card.specs.Serials.{isSerial}
+use Rattle.section.specs.Sections.{placeOf, findIn, has}
+use Rattle.book.specs.Book.{cards, withdrawn, wellFormed}
+use Rattle.book.specs.Answers.{Answer, accepted, ask, foundAnswer}
 use Rattle.book.specs.Lookup.{seekOf, lookupOf}
-use Rattle.book.specs.Change.{bookIn, Takes, roomFor, addAnswer, withdrawAnswer}
-use Rattle.book.specs.declared.Section.{Section}
 use Rattle.book.specs.declared.Found.{Found}
 use Rattle.book.specs.declared.Found.the-variants as found
-use Rattle.book.specs.declared.Changed.{Changed}
-use Rattle.book.specs.declared.Changed.the-variants as changed
 use Rattle.book.proofs.Found as Found-type
-use Rattle.book.proofs.Changed as Changed-type
 use Rattle.book.proofs.Sections.{formed-sized}
 
 -- an answer of lookup that is no place refuses
@@ -69,99 +57,13 @@ place-fits b t n e =
     let z = formed-sized b (p .formed) in
     omega (arith, p .place, p .card, z .whole)
 
--- ---- adding and withdrawing
--- an answer that is no length refuses
-pub not-length : (r : Changed) → OneOf (1 ∷ 2 ∷ 3 ∷ 4 ∷ 5 ∷ 6 ∷ []) (tagOf Changed-type.the-type r) → eqb (changedAnswer r .number) 0 ≡ false
-not-length (changed.Length n) h =
-    absurd (⊎-elim (λ e. omega arith) (⊎-elim (λ e. omega arith) (⊎-elim (λ e. omega arith) (⊎-elim (λ e. omega arith) (⊎-elim (λ e. omega arith) (λ e. omega arith))))) h)
-not-length changed.NotSerial h = refl
-not-length changed.OutOfRange h = refl
-not-length changed.Malformed h = refl
-not-length changed.Present h = refl
-not-length changed.Full h = refl
-not-length changed.NoRoom h = refl
-
 -- no refusal: the test passed, and nothing after it refuses
-ask-none : (t : Bool) (r : ℕ) (a : Answer) → ask t (suc r) a .number ≡ 0 → (t ≡ true) × (a .number ≡ 0)
+pub ask-none : (t : Bool) (r : ℕ) (a : Answer) → ask t (suc r) a .number ≡ 0 → (t ≡ true) × (a .number ≡ 0)
 ask-none true r a e = (refl, e)
 ask-none false r a e = absurd (omega arith)
 
--- there is room for one entry more
-pub record Room (b : List ℕ) (s : Section) (limit : ℕ) (t : List ℕ) (room : ℕ) : Type 0 where
-  pub new : has b s t ≡ false
-  pub few : s .count < limit
-  pub fits : length b + s .size ≤ room
-
-room-has : (b : List ℕ) (s : Section) (limit : ℕ) (t : List ℕ) (room : ℕ) → roomFor b s limit t room .number ≡ 0 → Room b s limit t room
-unfolding roomFor
-room-has b s limit t room e =
-    let e₁ = ask-none (not (has b s t)) 18 _ e in
-    let e₂ = ask-none (ltb (s .count) limit) 19 _ (e₁ .1) in
-    let e₃ = ask-none (leb (length b + s .size) room) 20 _ (e₂ .1) in
-    record { new = not-true _ (e₁ .0); few = ltb-true _ _ (e₂ .0); fits = leb-true _ _ (e₃ .0) }
-
--- a well-formed book in the first used bytes
-pub record Holds (b : List ℕ) (used : ℕ) : Type 0 where
-  pub test : bookIn b used ≡ true
-  pub within : used ≤ length b
-  pub formed : wellFormed (take used b) ≡ true
-  pub long : length (take used b) ≡ used
-  pub sizes : Sized (take used b)
-
-pub holds : (b : List ℕ) (used : ℕ) → bookIn b used ≡ true → Holds b used
-unfolding bookIn
-holds b used e =
-    let l = leb-true used (length b) (and-left (leb used (length b)) (wellFormed (take used b)) e) in
-    let f = and-right (leb used (length b)) (wellFormed (take used b)) e in
-    record { test = e; within = l; formed = f; long = length-take-le used b l; sizes = formed-sized (take used b) f }
-
--- an accepted card
-pub record Adds (b : List ℕ) (used : ℕ) (t : List ℕ) (f : List ℤ) : Type 0 where
-  pub serial : isSerial t ≡ true
-  pub values : valuesFit f ≡ true
-  pub book : Holds b used
-  pub room : Room (take used b) (cards (take used b)) 1024 t (length b)
-
-pub adds : (b : List ℕ) (used : ℕ) (t : List ℕ) (f : List ℤ) → addAnswer b used t f .number ≡ 0 → Adds b used t f
-unfolding addAnswer
-adds b used t f e =
-    let e₁ = ask-none (isSerial t) 0 _ e in
-    let e₂ = ask-none (valuesFit f) 11 _ (e₁ .1) in
-    let e₃ = ask-none (bookIn b used) 1 _ (e₂ .1) in
-    record { serial = e₁ .0; values = e₂ .0; book = holds b used (e₃ .0); room = room-has _ _ 1024 t (length b) (e₃ .1) }
-
--- an accepted withdrawal
-pub record Withdraws (b : List ℕ) (used : ℕ) (t : List ℕ) : Type 0 where
-  pub serial : isSerial t ≡ true
-  pub book : Holds b used
-  pub room : Room (take used b) (withdrawn (take used b)) 512 t (length b)
-
-pub withdraws : (b : List ℕ) (used : ℕ) (t : List ℕ) → withdrawAnswer b used t .number ≡ 0 → Withdraws b used t
-unfolding withdrawAnswer
-withdraws b used t e =
-    let e₁ = ask-none (isSerial t) 0 _ e in
-    let e₂ = ask-none (bookIn b used) 1 _ (e₁ .1) in
-    record { serial = e₁ .0; book = holds b used (e₂ .0); room = room-has _ _ 512 t (length b) (e₂ .1) }
-
--- the buffer takes the entry
-pub takes-card : (b : List ℕ) (used : ℕ) (t : List ℕ) (f : List ℤ) → length f ≡ 8 → Adds b used t f → Takes b used (cards (take used b)) (cardBytes (serialOf t) f)
-takes-card b used t f eight a =
-    let z = a .book .sizes .whole in
-    let n = length-card (serialOf t) f (twelve-places t (a .serial)) eight in
-    record { counted = omega arith; inside = omega (arith, z, a .book .long); room = omega (arith, a .room .fits, a .book .long, n); few = omega (arith, a .room .few) }
-
-pub takes-serial : (b : List ℕ) (used : ℕ) (t : List ℕ) → Withdraws b used t → Takes b used (withdrawn (take used b)) (serialBytes (serialOf t))
-takes-serial b used t a =
-    let z = a .book .sizes .whole in
-    let n = length-bytes t (a .serial) in
-    record { counted = omega arith; inside = omega (arith, z, a .book .long); room = omega (arith, a .room .fits, a .book .long, n); few = omega (arith, a .room .few) }
-
--- a book of the right size is short
-pub short-book : (b : List ℕ) → Sized b → length b ≤ 44548
-short-book b z = omega (arith, z .whole, z .few-cards, z .few-withdrawn)
-
 -- ---- no answer is beyond the buffer
-ask-within : (t : Bool) (r n : ℕ) (a : Answer) → (t ≡ true → a .value ≤ n) → ask t r a .value ≤ n
+pub ask-within : (t : Bool) (r n : ℕ) (a : Answer) → (t ≡ true → a .value ≤ n) → ask t r a .value ≤ n
 ask-within true r n a h = h refl
 ask-within false r n a h = omega arith
 
@@ -170,18 +72,3 @@ unfolding lookupOf seekOf has
 lookup-within b t =
     ask-within (isSerial t) 1 _ _ (λ s. ask-within (wellFormed b) 2 _ _ (λ f. ask-within (not (has b (withdrawn b) t)) 3 _ _
     (λ w. ask-within (has b (cards b) t) 4 _ _ (λ h. omega (arith, ltb-true (findIn b (cards b) t) (cards b .count) h, formed-sized b f .whole)))))
-
-room-within : (b : List ℕ) (s : Section) (limit : ℕ) (t : List ℕ) (room : ℕ) → roomFor b s limit t room .value ≤ room
-unfolding roomFor
-room-within b s limit t room =
-    ask-within (not (has b s t)) 19 _ _ (λ n. ask-within (ltb (s .count) limit) 20 _ _ (λ l. ask-within (leb (length b + s .size) room) 21 _ _ (λ f. leb-true _ _ f)))
-
-pub add-within : (b : List ℕ) (used : ℕ) (t : List ℕ) (f : List ℤ) → addAnswer b used t f .value ≤ length b
-unfolding addAnswer
-add-within b used t f =
-    ask-within (isSerial t) 1 _ _ (λ s. ask-within (valuesFit f) 12 _ _ (λ v. ask-within (bookIn b used) 2 _ _ (λ h. room-within (take used b) (cards (take used b)) 1024 t (length b))))
-
-pub withdraw-within : (b : List ℕ) (used : ℕ) (t : List ℕ) → withdrawAnswer b used t .value ≤ length b
-unfolding withdrawAnswer
-withdraw-within b used t =
-    ask-within (isSerial t) 1 _ _ (λ s. ask-within (bookIn b used) 2 _ _ (λ h. room-within (take used b) (withdrawn (take used b)) 512 t (length b)))

@@ -1,19 +1,13 @@
--- Each public contract decides its outcome: of two results and two contents of each lent buffer that it allows, each is the other.
+-- Each public contract decides its outcome: of two results that it allows, each is the other.
 use mathlib.Core.Path.{_≡_, refl, sym, ap, _∙_}
 use mathlib.Core.Bool.{cond}
 use mathlib.Core.List.{List}
 use Prim.Native.Nat.{ℕ}
 use lib.Dec.{eqb}
 use Rattle.promise.specs.Determined.{Decided, DecidedBy}
-use Rattle.book.specs.Answers.{Answer, foundAnswer, changedAnswer}
+use Rattle.book.specs.Answers.{Answer, foundAnswer}
 use Rattle.book.specs.declared.Found.{Found}
 use Rattle.book.specs.declared.Found.the-variants as found
-use Rattle.book.specs.declared.Changed.{Changed}
-use Rattle.book.specs.declared.Changed.the-variants as changed
-use Rattle.book.proofs.change.add.Kinds as add-k
-use Rattle.book.proofs.change.add.Reads as add
-use Rattle.book.proofs.change.withdraw.Kinds as withdraw-k
-use Rattle.book.proofs.change.withdraw.Reads as withdraw
 use Rattle.book.proofs.cards.Kinds as cards-k
 use Rattle.book.proofs.cards.Reads as cards
 use Rattle.book.proofs.withdrawn.Kinds as withdrawn-k
@@ -44,28 +38,6 @@ found-back found.NoCard = refl
 found-only : (f g : Found) → foundAnswer f ≡ foundAnswer g → f ≡ g
 found-only f g e = sym (found-back f) ∙ ap foundOf e ∙ found-back g
 
-changedOf : Answer → Changed
-changedOf a =
-    cond (eqb (a .number) 0) (changed.Length (a .value))
-    (cond (eqb (a .number) 1) changed.NotSerial
-    (cond (eqb (a .number) 12) changed.OutOfRange
-    (cond (eqb (a .number) 2) changed.Malformed
-    (cond (eqb (a .number) 19) changed.Present
-    (cond (eqb (a .number) 20) changed.Full changed.NoRoom)))))
-
-changed-back : (c : Changed) → changedOf (changedAnswer c) ≡ c
-unfolding changedOf
-changed-back (changed.Length n) = refl
-changed-back changed.NotSerial = refl
-changed-back changed.OutOfRange = refl
-changed-back changed.Malformed = refl
-changed-back changed.Present = refl
-changed-back changed.Full = refl
-changed-back changed.NoRoom = refl
-
-changed-only : (c d : Changed) → changedAnswer c ≡ changedAnswer d → c ≡ d
-changed-only c d e = sym (changed-back c) ∙ ap changedOf e ∙ changed-back d
-
 -- ---- the contracts
 pub cards-decided : Decided 1 cards-k.ps cards-k.r cards.Pre cards.Post
 cards-decided = record { always = λ κs a. tt; determined = λ κs a p z z′ ws ws′ q q′. (q .0 ∙ sym (q′ .0), refl) }
@@ -82,10 +54,3 @@ lookup-decided = record { always = λ κs a. tt; determined = λ κs a p z z′ 
 -- a part of the lent book: its place and its contents. Of what a reference is in the logic only its ghost name is left open, which no run has
 pub card-of-decided : DecidedBy 2 card-of-k.ps card-of-k.r ((ℕ × ℕ) × List ℕ) (λ κs z. (z .ptr, z .now)) card-of.Pre card-of.Post
 card-of-decided = record { always = λ κs a. tt; determined = λ κs a p z z′ ws ws′ q q′. ((λ i. (((q .1 ∙ sym (q′ .1)) i, (q .2 ∙ sym (q′ .2)) i), (q .0 ∙ sym (q′ .0)) i)), refl) }
-
--- the lent buffer: what is left in it is `ws .0`
-pub add-decided : Decided 2 add-k.ps add-k.r add.Pre add.Post
-add-decided = record { always = λ κs a. tt; determined = λ κs a p z z′ ws ws′ q q′. (changed-only z z′ (q .0 ∙ sym (q′ .0)), λ i. ((q .1 ∙ sym (q′ .1)) i, (tt, (tt, (tt, tt))))) }
-
-pub withdraw-decided : Decided 2 withdraw-k.ps withdraw-k.r withdraw.Pre withdraw.Post
-withdraw-decided = record { always = λ κs a. tt; determined = λ κs a p z z′ ws ws′ q q′. (changed-only z z′ (q .0 ∙ sym (q′ .0)), λ i. ((q .1 ∙ sym (q′ .1)) i, (tt, (tt, tt)))) }

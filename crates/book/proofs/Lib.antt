@@ -1,9 +1,5 @@
--- Laws of the book's definitions, and the theorems.
+-- Laws of the book's definitions, and the theorems of lookup.
 pub mod Sections
 pub mod Answers
-pub mod Entry
-pub mod Grown
-pub mod Changes
 pub mod Promises
-pub mod Exact
 pub mod Decided

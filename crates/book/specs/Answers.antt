@@ -3,8 +3,6 @@ use Prim.Native.Nat.{ℕ}
 use mathlib.Core.Bool.{Bool, true, false}
 use Rattle.book.specs.declared.Found.{Found}
 use Rattle.book.specs.declared.Found.the-variants as found
-use Rattle.book.specs.declared.Changed.{Changed}
-use Rattle.book.specs.declared.Changed.the-variants as changed
 
 -- the number of the refusal, 0 where nothing is refused, and the value
 pub record Answer : Type 0 where
@@ -29,13 +27,3 @@ foundAnswer found.NotSerial = refused 1
 foundAnswer found.Malformed = refused 2
 foundAnswer found.Withdrawn = refused 3
 foundAnswer found.NoCard = refused 4
-
--- what each answer of adding and withdrawing says: the new length, or a refusal
-abbrev pub changedAnswer : Changed → Answer
-changedAnswer (changed.Length n) = accepted n
-changedAnswer changed.NotSerial = refused 1
-changedAnswer changed.OutOfRange = refused 12
-changedAnswer changed.Malformed = refused 2
-changedAnswer changed.Present = refused 19
-changedAnswer changed.Full = refused 20
-changedAnswer changed.NoRoom = refused 21

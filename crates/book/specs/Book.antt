@@ -5,8 +5,8 @@ use mathlib.Core.Bool.{Bool, _&&_}
 use mathlib.Core.List.{List}
 use lib.ListN.{length, getD}
 use lib.Dec.{leb, eqb}
-use Rattle.book.specs.Sections.{endOf, sectionOk}
-use Rattle.book.specs.declared.Section.{Section}
+use Rattle.section.specs.Sections.{endOf, sectionOk}
+use Rattle.section.specs.declared.Section.{Section}
 
 -- a count: two bytes, low byte first
 unfoldable pub countAt : List ℕ → ℕ → ℕ

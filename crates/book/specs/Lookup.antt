@@ -5,7 +5,7 @@ use mathlib.Core.List.{List, []}
 use lib.Dec.{eqb}
 use Rattle.card.specs.Places.{part}
 use Rattle.card.specs.Serials.{isSerial}
-use Rattle.book.specs.Sections.{placeOf, findIn, has}
+use Rattle.section.specs.Sections.{placeOf, findIn, has}
 use Rattle.book.specs.Book.{cards, withdrawn, wellFormed}
 use Rattle.book.specs.Answers.{Answer, accepted, ask}
 

@@ -2,9 +2,8 @@
 use aberzhan::Module;
 use aberzhan::Stepped;
 use address::WordAddr;
-use book::Changed;
-use book::change;
 use card::Serial;
+use change::Changed;
 use libc::STDOUT_FILENO;
 use port::answers::Answer;
 

@@ -1,5 +1,5 @@
 -- Each public contract decides its outcome: of two results and two contents of each lent buffer that it allows, each is the other.
-use mathlib.Core.Path.{_≡_, refl, sym, _∙_}
+use mathlib.Core.Path.{sym, _∙_}
 use Rattle.promise.specs.Determined.{Decided}
 use Rattle.listing.proofs.refused_line.Kinds as refused-line-k
 use Rattle.listing.proofs.refused_line.Reads as refused-line

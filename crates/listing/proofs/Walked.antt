@@ -1,16 +1,15 @@
 -- A listing made by a walk of the book has the lines of the definition.
-use Prim.Native.Nat.{ℕ, zero, suc, _+_, _<_, _≤_}
+use Prim.Native.Nat.{ℕ, zero, suc, _+_, _<_}
 use mathlib.Core.Path.{_≡_, refl, sym, ap, _∙_}
 use mathlib.Core.Bool.{true, cond}
-use mathlib.Core.List.{List, [], _∷_, _++_, append-nil, append-assoc}
+use mathlib.Core.List.{List, [], _++_, append-nil, append-assoc}
 use native.Mathlib.Omega.{arith}
-use lib.Dec.{ltb}
 use borrow.Author.Tests.{lt-ltb}
 use Rattle.card.specs.Places.{part}
-use Rattle.book.specs.Sections.{placeOf, entryAt}
+use Rattle.section.specs.Sections.{placeOf, entryAt}
 use Rattle.book.specs.Book.{cards, withdrawn, wellFormed}
 use Rattle.reader.specs.declared.Step.{Step}
-use Rattle.reader.specs.Walk.{stepAt, placeAfter}
+use Rattle.reader.specs.Walk.{placeAfter}
 use Rattle.reader.proofs.Promise.{promise}
 use Rattle.listing.specs.Lines.{cardText, serialText, cardLine, withdrawnLine, entryLine, lines, WalkedListing}
 

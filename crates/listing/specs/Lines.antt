@@ -8,7 +8,7 @@ use lib.Dec.{ltb}
 use Rattle.card.specs.Places.{part}
 use Rattle.card.specs.Serials.{textOf}
 use Rattle.card.specs.Cards.{fieldsAt}
-use Rattle.book.specs.Sections.{entryAt}
+use Rattle.section.specs.Sections.{entryAt}
 use Rattle.book.specs.Book.{cards, withdrawn, wellFormed}
 use Rattle.reader.specs.Walk.{stepAt, placeAfter}
 use Rattle.listing.specs.Numbers.{decimal, signedDecimal}

@@ -1,7 +1,7 @@
 -- The walk gives exactly the book's cards in order, then its withdrawn serials, then the end.
 use mathlib.Core.Path.{ap}
 use Rattle.reader.specs.declared.Step.{Step}
-use Rattle.reader.specs.Promise.{WalksWhole, Promise}
+use Rattle.reader.specs.Promise.{Promise}
 use Rattle.reader.proofs.Steps.{cards-walked, serials-walked, none-left}
 
 pub promise : Promise

@@ -1,28 +1,27 @@
 -- The ways through a step, and the walk step by step: every card, every withdrawn serial, then the end.
 use Prim.Native.Nat.{ℕ, zero, suc, _+_, _*_, _-_, _<_, _≤_}
 use mathlib.Core.Path.{_≡_, refl, sym, ap, _∙_}
-use mathlib.Core.Bool.{Bool, true, false, cond, _&&_, false≢true}
+use mathlib.Core.Bool.{Bool, true, false, not}
 use mathlib.Core.List.{List}
 use native.Mathlib.Omega.{arith}
-use lib.Dec.{eqb, leb, ltb}
 use lib.ListN.{length}
-use borrow.Author.Tests.{lt-ltb, le-ltb, le-leb, eq-eqb, ne-eqb, eqb-true}
-use Rattle.card.specs.Every.{and-left, and-right}
-use Rattle.book.specs.Sections.{placeOf, endOf, sectionOk}
-use Rattle.book.specs.Book.{cards, withdrawn, sized, wellFormed}
+use borrow.Author.Tests.{lt-ltb, le-ltb, le-leb, eq-eqb, ne-eqb}
+use Rattle.section.specs.Sections.{placeOf, endOf}
+use Rattle.book.specs.Book.{cards, withdrawn, wellFormed}
+use Rattle.book.proofs.Sections.{formed-sized}
 use Rattle.reader.specs.declared.Step.{Step}
-use Rattle.reader.specs.Walk.{pastCount, noStep, cardStep, serialStep, stepAt, placeAfter}
+use Rattle.reader.specs.Walk.{pastCount, noStep, entryStep, stepAt, placeAfter}
 
 -- ---- the ways through a step
 module _ (b : List ℕ) (at : ℕ) where
   abbrev here : ℕ
   here = pastCount at (endOf (cards b))
 
-  pub at-card : here < endOf (cards b) → cardStep (length b) here ≡ stepAt b at
+  pub at-card : here < endOf (cards b) → entryStep true 37 (length b) here ≡ stepAt b at
   unfolding stepAt
   at-card h = rw (lt-ltb here (endOf (cards b)) h) refl
 
-  pub at-serial : endOf (cards b) ≤ here → here < endOf (withdrawn b) → serialStep (length b) here ≡ stepAt b at
+  pub at-serial : endOf (cards b) ≤ here → here < endOf (withdrawn b) → entryStep false 13 (length b) here ≡ stepAt b at
   unfolding stepAt
   at-serial h l = rw (le-ltb here (endOf (cards b)) h, lt-ltb here (endOf (withdrawn b)) l) refl
 
@@ -31,13 +30,9 @@ module _ (b : List ℕ) (at : ℕ) where
   at-end h l = rw (le-ltb here (endOf (cards b)) h, le-ltb here (endOf (withdrawn b)) l) refl
 
 -- ---- the walk through a book of the right size
-card-there : (len at : ℕ) → at + 37 ≤ len → cardStep len at ≡ record { card = true; withdrawn = false; at = at; next = at + 37 }
-unfolding cardStep
-card-there len at h = rw (le-leb (at + 37) len h) refl
-
-serial-there : (len at : ℕ) → at + 13 ≤ len → serialStep len at ≡ record { card = false; withdrawn = true; at = at; next = at + 13 }
-unfolding serialStep
-serial-there len at h = rw (le-leb (at + 13) len h) refl
+there : (card : Bool) (size len at : ℕ) → at + size ≤ len → entryStep card size len at ≡ record { card = card; withdrawn = not card; at = at; next = at + size }
+unfolding entryStep
+there card size len at h = rw (le-leb (at + size) len h) refl
 
 stays : (at end : ℕ) → (at ≡ end → ⊥) → pastCount at end ≡ at
 stays at end h = rw (ne-eqb at end h) refl
@@ -46,13 +41,7 @@ passes : (at end : ℕ) → at ≡ end → pastCount at end ≡ at + 2
 passes at end h = rw (eq-eqb at end h) refl
 
 whole : (b : List ℕ) → wellFormed b ≡ true → length b ≡ endOf (withdrawn b)
-unfolding wellFormed sized
-whole b e =
-    let few = leb (cards b .count) 1024 && leb (withdrawn b .count) 512 in
-    let size = few && eqb (length b) (endOf (withdrawn b)) in
-    eqb-true (length b) (endOf (withdrawn b))
-    (and-right few (eqb (length b) (endOf (withdrawn b)))
-    (and-left size (sectionOk b (cards b)) (and-left (size && sectionOk b (cards b)) (sectionOk b (withdrawn b)) e)))
+whole b e = formed-sized b e .whole
 
 module _ (b : List ℕ) (formed : wellFormed b ≡ true) where
   abbrev n : ℕ
@@ -70,8 +59,8 @@ module _ (b : List ℕ) (formed : wellFormed b ≡ true) where
       let d : (at ≡ endOf (cards b) → ⊥) = λ q. omega (arith, card-fits k h) in
       let s : pastCount at (endOf (cards b)) ≡ at = stays at (endOf (cards b)) d in
       sym (at-card b at (omega (arith, s, card-fits k h)))
-      ∙ ap (cardStep (length b)) s
-      ∙ card-there (length b) at (omega (arith, whole b formed, card-fits k h))
+      ∙ ap (entryStep true 37 (length b)) s
+      ∙ there true 37 (length b) at (omega (arith, whole b formed, card-fits k h))
       ∙ ap (λ (p : ℕ). record { card = true; withdrawn = false; at = p; next = p + 37 }) e
       ∙ ap (λ (q : ℕ). record { card = true; withdrawn = false; at = 2 + k * 37; next = q }) (omega arith)
 
@@ -89,8 +78,8 @@ module _ (b : List ℕ) (formed : wellFormed b ≡ true) where
   serial-step at j h s =
       let fits : j * 13 + 13 ≤ m * 13 = omega arith in
       sym (at-serial b at (omega (arith, s)) (omega (arith, s, fits)))
-      ∙ ap (serialStep (length b)) s
-      ∙ serial-there (length b) (2 + n * 37 + 2 + j * 13) (omega (arith, whole b formed, fits))
+      ∙ ap (entryStep false 13 (length b)) s
+      ∙ there false 13 (length b) (2 + n * 37 + 2 + j * 13) (omega (arith, whole b formed, fits))
       ∙ ap (λ (q : ℕ). record { card = false; withdrawn = true; at = 2 + n * 37 + 2 + j * 13; next = q }) (omega arith)
 
   -- where the reader is before withdrawn serial j: at the count before the first, and then at each one's place

@@ -3,9 +3,8 @@ use Prim.Native.Nat.{ℕ, _+_, _<_, _≤_}
 use mathlib.Core.Path.{_≡_}
 use mathlib.Core.Bool.{true, false}
 use mathlib.Core.List.{List}
-use Rattle.book.specs.Sections.{placeOf}
+use Rattle.section.specs.Sections.{placeOf}
 use Rattle.book.specs.Book.{cards, withdrawn, wellFormed}
-use Rattle.reader.specs.declared.Step.{Step}
 use Rattle.reader.specs.Walk.{stepAt, placeAfter}
 
 pub record WalksWhole (b : List ℕ) : Type 0 where

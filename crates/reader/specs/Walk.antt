@@ -1,10 +1,10 @@
 -- What a reader finds at a place of a book, and where it goes on.
 use Prim.Native.Nat.{ℕ, zero, suc, _+_}
-use mathlib.Core.Bool.{Bool, true, false, cond}
+use mathlib.Core.Bool.{Bool, true, false, not, cond}
 use mathlib.Core.List.{List}
 use lib.Dec.{eqb, leb, ltb}
 use lib.ListN.{length}
-use Rattle.book.specs.Sections.{endOf}
+use Rattle.section.specs.Sections.{endOf}
 use Rattle.book.specs.Book.{cards, withdrawn}
 use Rattle.reader.specs.declared.Step.{Step}
 
@@ -16,19 +16,16 @@ pastCount at end = cond (eqb at end) (at + 2) at
 abbrev pub noStep : ℕ → Step
 noStep at = record { card = false; withdrawn = false; at = at; next = at }
 
--- a card of 37 bytes, or a withdrawn serial of 13, where the bytes are there
-unfoldable pub cardStep : ℕ → ℕ → Step
-cardStep len at = cond (leb (at + 37) len) (record { card = true; withdrawn = false; at = at; next = at + 37 }) (noStep at)
-
-unfoldable pub serialStep : ℕ → ℕ → Step
-serialStep len at = cond (leb (at + 13) len) (record { card = false; withdrawn = true; at = at; next = at + 13 }) (noStep at)
+-- an entry of so many bytes, a card or a withdrawn serial, where the bytes are there
+unfoldable pub entryStep : Bool → ℕ → ℕ → ℕ → Step
+entryStep card size len at = cond (leb (at + size) len) (record { card = card; withdrawn = not card; at = at; next = at + size }) (noStep at)
 
 -- what stands in a book at a place
 unfoldable pub stepAt : List ℕ → ℕ → Step
 stepAt b at =
     let p = pastCount at (endOf (cards b)) in
-    cond (ltb p (endOf (cards b))) (cardStep (length b) p)
-    (cond (ltb p (endOf (withdrawn b))) (serialStep (length b) p) (noStep p))
+    cond (ltb p (endOf (cards b))) (entryStep true 37 (length b) p)
+    (cond (ltb p (endOf (withdrawn b))) (entryStep false 13 (length b) p) (noStep p))
 
 -- where a reader that started behind the count of the cards is after so many steps
 unfoldable pub placeAfter : List ℕ → ℕ → ℕ

@@ -1,7 +1,7 @@
 // The bench reader: it walks a book card by card, and then its withdrawn serials, holding its place in the lent bytes.
 ghost use mathlib.Core.Path.{_≡_};
 ghost use Prim.Native.Nat.{_≤_};
-ghost use Rattle.reader.specs.Walk.{pastCount, cardStep, serialStep, noStep, stepAt};
+ghost use Rattle.reader.specs.Walk.{pastCount, entryStep, noStep, stepAt};
 
 // What stands at a place: a card, a withdrawn serial, or neither at the end; and the place after it.
 pub struct Step {
@@ -36,31 +36,16 @@ fn no_step(at: usize) -> Step
     }
 }
 
-fn card_step(len: usize, at: usize) -> Step
-    requires { ⌜ at ≤ 2424797 ⌝ }
-    ensures { λ r. ⌜ r ≡ cardStep len at ⌝ }
+// An entry of so many bytes, a card or a withdrawn serial, where the bytes are there.
+fn entry_step(card: bool, size: usize, len: usize, at: usize) -> Step
+    requires { ⌜ (size ≤ 37) × (at ≤ 3276754) ⌝ }
+    ensures { λ r. ⌜ r ≡ entryStep card size len at ⌝ }
 {
-    let end = at + 37;
+    let end = at + size;
     if end <= len {
         return Step {
-            card: true,
-            withdrawn: false,
-            at,
-            next: end,
-        };
-    }
-    no_step(at)
-}
-
-fn serial_step(len: usize, at: usize) -> Step
-    requires { ⌜ at ≤ 3276754 ⌝ }
-    ensures { λ r. ⌜ r ≡ serialStep len at ⌝ }
-{
-    let end = at + 13;
-    if end <= len {
-        return Step {
-            card: false,
-            withdrawn: true,
+            card,
+            withdrawn: !card,
             at,
             next: end,
         };
@@ -69,7 +54,7 @@ fn serial_step(len: usize, at: usize) -> Step
 }
 
 // The work of the reader, on a plain slice and a number.
-pub fn step_at(b: &[u8], at: usize) -> Step
+fn step_at(b: &[u8], at: usize) -> Step
     ensures { λ r. ⌜ r ≡ stepAt (now (b .entry)) at ⌝ }
 {
     let c = book::cards(b);
@@ -78,10 +63,10 @@ pub fn step_at(b: &[u8], at: usize) -> Step
     let end = w.base + w.count * 13;
     let from = past_count(at, cards_end);
     if from < cards_end {
-        return card_step(b.len(), from);
+        return entry_step(true, 37, b.len(), from);
     }
     if from < end {
-        return serial_step(b.len(), from);
+        return entry_step(false, 13, b.len(), from);
     }
     no_step(from)
 }

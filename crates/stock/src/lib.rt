@@ -1,12 +1,13 @@
 // What the bench computer's stock program calls from C. Each function gives one signed number: the place of a card's first byte, the new length, or a refusal's number negated.
-use book::Changed;
 use book::Found;
+use change::Changed;
 ghost use mathlib.Core.Path.{_≡_};
 ghost use mathlib.Core.List.{[], _∷_};
 ghost use Prim.Native.Nat.{_^_, _<_};
-ghost use Rattle.book.specs.Answers.{foundAnswer, changedAnswer};
+ghost use Rattle.book.specs.Answers.{foundAnswer};
+ghost use Rattle.change.specs.Answers.{changedAnswer};
 ghost use Rattle.book.specs.Lookup.{lookupOf};
-ghost use Rattle.book.specs.Change.{addAnswer, added, withdrawAnswer, afterWithdraw};
+ghost use Rattle.change.specs.Change.{addAnswer, added, withdrawAnswer, afterWithdraw};
 ghost use Rattle.stock.specs.Signed.{signed};
 
 fn found_number(answer: Found) -> i64
@@ -63,7 +64,7 @@ pub extern "C" fn stock_add(
     ensures { λ r. ⌜ (r ≡ signed (addAnswer (now (buffer .entry)) used (now (serial .entry)) (voffs ∷ ioffs ∷ vgain ∷ igain ∷ phase ∷ irmsoffs ∷ squelch ∷ poffs ∷ []))) × (now (buffer .exit) ≡ added (now (buffer .entry)) used (now (serial .entry)) (voffs ∷ ioffs ∷ vgain ∷ igain ∷ phase ∷ irmsoffs ∷ squelch ∷ poffs ∷ [])) ⌝ }
 {
     let values = [voffs, ioffs, vgain, igain, phase, irmsoffs, squelch, poffs];
-    changed_number(book::change::add(buffer, used, serial, values))
+    changed_number(change::add(buffer, used, serial, values))
 }
 
 // Withdraws a serial; the length of the new book.
@@ -71,5 +72,5 @@ pub extern "C" fn stock_add(
 pub extern "C" fn stock_withdraw(buffer: &mut [u8], used: usize, serial: &[u8]) -> i64
     ensures { λ r. ⌜ (r ≡ signed (withdrawAnswer (now (buffer .entry)) used (now (serial .entry)))) × (now (buffer .exit) ≡ afterWithdraw (now (buffer .entry)) used (now (serial .entry))) ⌝ }
 {
-    changed_number(book::change::withdraw(buffer, used, serial))
+    changed_number(change::withdraw(buffer, used, serial))
 }

@@ -1,9 +1,7 @@
 -- `book::is_book` meets its contract.
 use mathlib.Core.Path.{sym, _∙_}
-use denote.Ref.{now}
 use borrow.Author.Tests.{not-true, not-false}
-use Rattle.book.specs.Book.{wellFormed, Sized}
-use Rattle.book.proofs.Sections.{sized-has, cards-lie, withdrawn-lie}
+use Rattle.book.specs.Book.{wellFormed}
 use borrow.Author.Needs.{needs}
 use Rattle.book.proofs.is_book.Statement.{statement}
 use Rattle.book.proofs.is_book.Tie as tie
@@ -18,11 +16,8 @@ returns c = simp (sym (c .before .sized .ensures) ∙ not-true _ (c .if1 .taken)
 cards-requires : tie.Need-cards-requires
 cards-requires c κs = search needs
 
-size : (c : tie.After-cards) → Sized (now (c .before .before .before .before .args .b))
-size c = sized-has _ (sym (c .before .before .sized .ensures) ∙ not-false _ (c .before .if1 .left))
-
 section-ok-requires : tie.Need-section-ok-requires
-section-ok-requires c κs = rw (c .cards .ensures .0) (cards-lie _ (size c))
+section-ok-requires c κs = search needs
 
 returns-2 : tie.Need-returns-2
 unfolding wellFormed
@@ -34,7 +29,7 @@ withdrawn-requires : tie.Need-withdrawn-requires
 withdrawn-requires c κs = search needs
 
 section-ok-requires-2 : tie.Need-section-ok-requires-2
-section-ok-requires-2 c κs = rw (c .withdrawn .ensures .0) (withdrawn-lie _ (size (c .before .before .before)))
+section-ok-requires-2 c κs = search needs
 
 returns-3 : tie.Need-returns-3
 unfolding wellFormed

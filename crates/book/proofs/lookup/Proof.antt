@@ -6,7 +6,6 @@ use borrow.Author.Tests.{not-true, not-false}
 use Rattle.card.specs.Serials.{isSerial}
 use Rattle.book.specs.Book.{wellFormed}
 use Rattle.book.specs.Lookup.{lookupOf}
-use Rattle.book.proofs.Sections.{formed-sized}
 use borrow.Author.Needs.{needs}
 use Rattle.book.proofs.lookup.Statement.{statement}
 use Rattle.book.proofs.lookup.Tie as tie
@@ -32,7 +31,7 @@ unfolding lookupOf
 returns-2 c = simp (text (c .before), sym (c .before .is-book .ensures) ∙ not-true _ (c .if2 .taken))
 
 seek-requires : tie.Need-seek-requires
-seek-requires c κs = formed-sized _ (formed c)
+seek-requires c κs = search needs
 
 returns-3 : tie.Need-returns-3
 unfolding lookupOf

@@ -5,9 +5,8 @@ use lib.Dec.{ltb}
 use denote.Ref.{now}
 use Rattle.book.specs.Book.{cards, withdrawn}
 use borrow.Author.Tests.{lt-ltb, le-ltb}
-use Rattle.book.specs.Sections.{findIn, has}
+use Rattle.section.specs.Sections.{findIn, has}
 use Rattle.book.specs.Lookup.{seekOf}
-use Rattle.book.proofs.Sections.{cards-lie, withdrawn-lie}
 use borrow.Author.Needs.{needs}
 use Rattle.book.proofs.seek.Statement.{statement}
 use Rattle.book.proofs.seek.Tie as tie
@@ -16,7 +15,7 @@ withdrawn-requires : tie.Need-withdrawn-requires
 withdrawn-requires c κs = search needs
 
 has-requires : tie.Need-has-requires
-has-requires c κs = rw (c .withdrawn .ensures .0) (withdrawn-lie _ (c .before .before .before .pre))
+has-requires c κs = search needs
 
 returns : tie.Need-returns
 unfolding seekOf
@@ -28,7 +27,7 @@ cards-requires : tie.Need-cards-requires
 cards-requires c κs = search needs
 
 find-requires : tie.Need-find-requires
-find-requires c κs = rw (c .cards .ensures .0) (cards-lie _ (c .before .before .before .before .before .before .pre))
+find-requires c κs = search needs
 
 mul-t8 : tie.Need-mul-t8
 mul-t8 c = search needs

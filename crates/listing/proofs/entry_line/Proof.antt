@@ -1,6 +1,5 @@
 -- `entry_line` meets its contract.
-use mathlib.Core.Path.{_≡_, refl, sym}
-use denote.Ref.{now}
+use mathlib.Core.Path.{refl, sym}
 use Rattle.card.specs.Places.{put-none}
 use Rattle.listing.specs.Lines.{entryLine}
 use Rattle.listing.proofs.Lines.{part-short}

@@ -7,7 +7,7 @@ use lib.ListN.{length, length-append}
 use denote.Ref.{now}
 use Rattle.card.specs.Places.{put}
 use Rattle.book.specs.Book.{cards, withdrawn}
-use Rattle.book.specs.declared.Section.{Section}
+use Rattle.section.specs.declared.Section.{Section}
 use Rattle.listing.specs.Numbers.{decimal}
 use Rattle.listing.specs.Lines.{cardsWord, withdrawnWord, firstLine}
 use Rattle.listing.proofs.Numbers.{digits-length}

@@ -1,12 +1,11 @@
 -- `step_at` meets its contract.
-use native.Mathlib.Omega.{arith}
-use mathlib.Core.Path.{_≡_, refl, sym, ap, _∙_}
-use Prim.Native.Nat.{ℕ, _+_, _*_}
+use mathlib.Core.Path.{_≡_, ap, _∙_}
+use Prim.Native.Nat.{_+_, _*_}
 use denote.Ref.{now}
-use Rattle.book.specs.Sections.{endOf}
+use Rattle.section.specs.Sections.{endOf}
 use Rattle.book.specs.Book.{cards, withdrawn}
-use Rattle.book.specs.declared.Section.{Section}
-use Rattle.reader.specs.Walk.{pastCount, cardStep, serialStep, noStep}
+use Rattle.section.specs.declared.Section.{Section}
+use Rattle.reader.specs.Walk.{pastCount}
 use Rattle.reader.proofs.Steps.{at-card, at-serial, at-end}
 use borrow.Author.Needs.{needs}
 use Rattle.reader.proofs.step_at.Statement.{statement}
@@ -33,8 +32,8 @@ add-end c = search needs
 past-count-requires : tie.Need-past-count-requires
 past-count-requires c κs = search needs
 
-card-step-requires : tie.Need-card-step-requires
-card-step-requires c κs = search needs
+entry-step-requires : tie.Need-entry-step-requires
+entry-step-requires c κs = search needs
 
 -- the function's entry, seen from where the count was passed over
 abbrev start : tie.After-past-count → tie.Start
@@ -56,17 +55,17 @@ returns : tie.Need-returns
 returns c =
     let p = c .before .before in
     let a = start p .args in
-    rw (c .card-step .ensures, from p) (at-card (now (a .b)) (a .at) (rw (from p, ends p) at (c .before .if1 .taken)))
+    rw (c .entry-step .ensures, from p) (at-card (now (a .b)) (a .at) (rw (from p, ends p) at (c .before .if1 .taken)))
 
-serial-step-requires : tie.Need-serial-step-requires
-serial-step-requires c κs = search needs
+entry-step-requires-2 : tie.Need-entry-step-requires-2
+entry-step-requires-2 c κs = search needs
 
 returns-2 : tie.Need-returns-2
 returns-2 c =
     let e = c .before .before in
     let p = e .before in
     let a = start p .args in
-    rw (c .serial-step .ensures, from p) (at-serial (now (a .b)) (a .at) (rw (from p, ends p) at (e .if1 .left)) (rw (from p, ends-2 p) at (c .before .if2 .taken)))
+    rw (c .entry-step2 .ensures, from p) (at-serial (now (a .b)) (a .at) (rw (from p, ends p) at (e .if1 .left)) (rw (from p, ends-2 p) at (c .before .if2 .taken)))
 
 no-step-requires : tie.Need-no-step-requires
 no-step-requires c κs = search needs
@@ -89,9 +88,9 @@ step-at-spec =
     mul-end
     add-end
     past-count-requires
-    card-step-requires
+    entry-step-requires
     returns
-    serial-step-requires
+    entry-step-requires-2
     returns-2
     no-step-requires
     returns-3)

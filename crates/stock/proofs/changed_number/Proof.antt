@@ -5,8 +5,8 @@ use native.Mathlib.Omega.{arith}
 use lib.IntN.{ℤ}
 use mir.Syntax.{w64}
 use mir.Facts.{toZ-pos}
-use Rattle.book.specs.Answers.{changedAnswer}
-use Rattle.book.specs.declared.Changed.{Changed}
+use Rattle.change.specs.Answers.{changedAnswer}
+use Rattle.change.specs.declared.Changed.{Changed}
 use Rattle.stock.specs.Signed.{signed}
 use borrow.Author.Needs.{needs}
 use Rattle.stock.proofs.changed_number.Statement.{statement}

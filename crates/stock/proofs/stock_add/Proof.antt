@@ -6,9 +6,10 @@ use native.Mathlib.Omega.{arith}
 use denote.Ref.{now}
 use mir.Syntax.{w64}
 use mir.Facts.{toZ-ofZ}
-use Rattle.book.specs.Answers.{Answer, changedAnswer}
-use Rattle.book.specs.Change.{addAnswer, added}
-use Rattle.book.proofs.Answers.{add-within}
+use Rattle.book.specs.Answers.{Answer}
+use Rattle.change.specs.Answers.{changedAnswer}
+use Rattle.change.specs.Change.{addAnswer, added}
+use Rattle.change.proofs.Answers.{add-within}
 use Rattle.stock.specs.Signed.{signed}
 use borrow.Author.Needs.{needs}
 use Rattle.stock.proofs.stock_add.Statement.{statement}

@@ -1,0 +1,3 @@
+-- Laws of sections, and what the contracts decide.
+pub mod Sections
+pub mod Decided
