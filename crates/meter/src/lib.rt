@@ -106,7 +106,8 @@ impl Meter {
         ensures { λ r. ⌜ r ≡ endOf n w self ⌝ }
     {
         let t = w.settings;
-        if n == t.n {
+        let full = n == t.n;
+        if full {
             let c = self.force;
             let u = w.closed(c);
             self.taken = 0;

@@ -1,5 +1,4 @@
 -- `ended` meets its contract.
-use borrow.Author.Tests.{eq-eqb, ne-eqb}
 use Rattle.meter.specs.Core.{endOf}
 use borrow.Author.Needs.{needs}
 use Rattle.meter.proofs.Meter.ended.Statement.{statement}
@@ -10,11 +9,11 @@ closed-requires c κs = search needs
 
 returns : tie.Need-returns
 unfolding endOf
-returns c = rw (c .closed .ensures, eq-eqb _ _ (c .before .before .if1 .taken))
+returns c = rw (c .closed .ensures, c .before .before .if1 .taken)
 
 returns-2 : tie.Need-returns-2
 unfolding endOf
-returns-2 c = rw (ne-eqb _ _ (c .if1 .left))
+returns-2 c = rw (c .if1 .left)
 
 pub ended-spec : {M : Type 1} → statement M
 ended-spec = tie.close (tie.spec closed-requires returns returns-2)
