@@ -131,8 +131,11 @@ impl Module {
         ensures { λ r. ⌜ r ≡ editedAt self port did ⌝ }
     {
         let answer = did.answer;
-        let after = self.with_desk(port, did.after);
-        Stepped { answer, after }
+        let edited = self.with_desk(port, did.after);
+        Stepped {
+            answer,
+            after: edited,
+        }
     }
 
     // Document 01's number, and the module as it came.
@@ -151,8 +154,8 @@ impl Module {
     {
         if is_port(port) {
             let d = self.desk(port);
-            let did = d.open_with(serial);
-            return self.at_desk(port, did);
+            let begun = d.open_with(serial);
+            return self.at_desk(port, begun);
         }
         self.refused(8)
     }
@@ -163,8 +166,8 @@ impl Module {
     {
         if is_port(port) {
             let d = self.desk(port);
-            let did = d.write_field(field, value);
-            return self.at_desk(port, did);
+            let written = d.write_field(field, value);
+            return self.at_desk(port, written);
         }
         self.refused(8)
     }

@@ -45,7 +45,7 @@ cast-result-2 c = search needs
 returns-3 : tie.Need-returns-3
 returns-3 c =
     let s = c .before .before .before .before in
-    rw (read32 (s .args .r .a .plus .count) (search needs)) (at-plus (s .args .r) (s .args .k) (figures s) (low s) (omega arith))
+    read32 (s .args .r .a .plus .count) (search needs) ∙ at-plus (s .args .r) (s .args .k) (figures s) (low s) (omega arith)
 
 cast-result-3 : tie.Need-cast-result-3
 cast-result-3 c = search needs
@@ -53,7 +53,7 @@ cast-result-3 c = search needs
 returns-4 : tie.Need-returns-4
 returns-4 c =
     let s = c .before .before .before .before .before in
-    rw (read32 (s .args .r .a .minus .count) (search needs)) (at-minus (s .args .r) (s .args .k) (figures s) (low s) (omega arith))
+    read32 (s .args .r .a .minus .count) (search needs) ∙ at-minus (s .args .r) (s .args .k) (figures s) (low s) (omega arith)
 
 sub-of-six-2 : tie.Need-sub-of-six-2
 sub-of-six-2 c = search needs
