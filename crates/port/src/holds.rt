@@ -65,6 +65,7 @@ fn register(r: Registers, k: usize) -> i64
 }
 
 impl Held {
+    // Where nothing is held, all is blank.
     pub fn nothing() -> Held
         ensures { λ r. ⌜ r ≡ nothingHeld ⌝ }
     {
