@@ -1,5 +1,6 @@
 -- `drop` meets its contract.
 use mathlib.Core.Path.{_≡_, ap, _∙_}
+use lib.IntN.{ℤ}
 use mir.Facts.{toZ-ofZ}
 use Rattle.port.specs.declared.desks.Desk.{Desk}
 use Rattle.port.specs.Desks.{dropping}
@@ -20,14 +21,15 @@ at-desk-requires : tie.Need-at-desk-requires
 at-desk-requires c κs = search needs
 
 the-desk : (c : tie.After-desk) → c .desk .result ≡ deskAt (c .before .args .self) (c .before .args .port)
-the-desk c = rw (toZ-ofZ (c .before .fits .port)) at (c .desk .ensures)
+the-desk c = c .desk .ensures ∙ ap (deskAt (c .before .args .self)) (toZ-ofZ (c .before .fits .port))
 
 returns : tie.Need-returns
 returns c =
     let start = c .before .before .before in
     let m = start .args .self in
     let p = start .args .port in
-    rw (toZ-ofZ (start .fits .port)) at (c .at-desk .ensures)
+    c .at-desk .ensures
+    ∙ ap (λ (q : ℤ). editedAt m q (c .before .drop-card .result)) (toZ-ofZ (start .fits .port))
     ∙ ap (editedAt m p) (c .before .drop-card .ensures ∙ ap (λ (d : Desk). desked d (dropping d)) (the-desk (c .before .before)))
     ∙ drops m p
 
