@@ -1,7 +1,7 @@
 -- Laws of the steps, one for each way through: what the code puts together is what the step's definition gives.
 use Prim.Native.Nat.{ℕ}
 use mathlib.Core.Path.{_≡_, refl, sym, ap, _∙_}
-use mathlib.Core.Bool.{true, false}
+use mathlib.Core.Bool.{Bool, true, false, cond}
 use mathlib.Core.List.{List}
 use mathlib.Core.Option.{Option}
 use lib.IntN.{ℤ}
@@ -16,7 +16,7 @@ use Rattle.port.specs.declared.holds.Held.{Held}
 use Rattle.aberzhan.specs.declared.Module.{Module}
 use Rattle.aberzhan.specs.declared.Stepped.{Stepped}
 use Rattle.aberzhan.specs.declared.Holding.{Holding}
-use Rattle.port.specs.Desks.{Edit, openWith, writeField, opening, writing, shutDesk, edited, finished, discarded, allWritten, cardOn}
+use Rattle.port.specs.Desks.{openWith, writeField, opening, writing, shutDesk, finished, discarded, dropping, allWritten, cardOn}
 use Rattle.port.specs.Holds.{Value, copyOf, copied}
 use Rattle.port.specs.Reading.{look}
 use Rattle.aberzhan.specs.Ports.{aberzhan, portAt}
@@ -25,7 +25,7 @@ use Rattle.aberzhan.specs.Module.{seen, kept, stepped, holding, notHeld,
 use Rattle.aberzhan.specs.Inside.{isPort, sideOf, deskAt, holdAt, deskPut, holdPut, waitPut, editedAt}
 use Rattle.aberzhan.proofs.Sides.{at-side, no-side}
 
--- ---- commit and drop of a desk
+-- ---- commit of a desk
 pub finished-whole : (d : Desk) → d .opened ≡ true → allWritten (d .written) ≡ true → finished d ≡ accepted (cardOn d)
 unfolding finished
 finished-whole d o w = simp (o, w)
@@ -38,21 +38,19 @@ pub finished-10 : (d : Desk) → d .opened ≡ false → finished d ≡ refused 
 unfolding finished
 finished-10 d o = simp o
 
-pub discarded-open : (d : Desk) → d .opened ≡ true → discarded d ≡ accepted tt
-unfolding discarded
-discarded-open d o = simp o
-
-pub discarded-10 : (d : Desk) → d .opened ≡ false → discarded d ≡ refused 10
-unfolding discarded
-discarded-10 d o = simp o
-
 -- ---- the steps, for the port s
-edit-side : (m : Module) (s : Port) (q : OrRefusal Desk) →
-    let e = desked (on (seen m .desks) s) q in
-    _≡_ {A = Stepped} (record { answer = e .answer; after = kept (withDesk aberzhan s (e .after) (seen m)) }) (stepped m (andThen q (didEdit aberzhan s (seen m))))
+abbrev doneAt : Module → Port → OrRefusal Desk → Stepped
+doneAt m s q = let e = desked (on (seen m .desks) s) q in record { answer = e .answer; after = kept (withDesk aberzhan s (e .after) (seen m)) }
+
+edit-side : (m : Module) (s : Port) (q : OrRefusal Desk) → doneAt m s q ≡ stepped m (andThen q (didEdit aberzhan s (seen m)))
 edit-side m port0 (refused n) = refl
 edit-side m port1 (refused n) = refl
 edit-side m s (accepted d) = refl
+
+drop-side : (m : Module) (s : Port) (q : OrRefusal (Unit {0})) → doneAt m s (andThen q (λ u. shutDesk)) ≡ stepped m (andThen q (didDrop aberzhan s (seen m)))
+drop-side m port0 (refused n) = refl
+drop-side m port1 (refused n) = refl
+drop-side m s (accepted u) = refl
 
 read-side : (m : Module) (s : Port) (a : ByteAddr) (q : OrRefusal Value) →
     _≡_ {A = Stepped} (record { answer = looked q; after = m }) (stepped m (andThen q (didRead aberzhan s a (seen m))))
@@ -68,19 +66,7 @@ module _ (m : Module) (p : ℤ) where
     at-port : (op : Op aberzhan) → stepped m (stepAt aberzhan (sideOf p) op (seen m)) ≡ stepped m (step aberzhan (atPort (portAt p) op) (seen m))
     at-port op = ap (λ (o : Option Port). stepped m (step aberzhan (atPort o op) (seen m))) (sym (at-side p h))
 
-    edits : (e : Edit) → editedAt m p (desked (deskAt m p) (edited (deskAt m p) e)) ≡ stepped m (step aberzhan (atPort (portAt p) (edit e)) (seen m))
-    unfolding editedAt deskPut deskAt
-    edits e = edit-side m (sideOf p) (edited (deskAt m p) e) ∙ at-port (edit e)
-
-    pub opens : (text : List ℕ) → editedAt m p (desked (deskAt m p) (opening (deskAt m p) text)) ≡ openOf m p text
-    unfolding openOf
-    opens text = edits (openWith text)
-
-    pub writes : (field v : ℤ) → editedAt m p (desked (deskAt m p) (writing (deskAt m p) field v)) ≡ writeOf m p field v
-    unfolding writeOf
-    writes field v = edits (writeField field v)
-
-    -- a commit and a drop, by what the desk says
+    -- a commit, by what the desk says
     pub commits : (c : Card) → finished (deskAt m p) ≡ accepted c → _≡_ {A = Stepped} (record { answer = Done; after = waitPut (deskPut m p shutDesk) c }) (commitOf m p)
     unfolding commitOf waitPut deskPut deskAt
     commits c e = ap (λ (q : OrRefusal Card). stepped m (andThen q (didCommit aberzhan (sideOf p) (seen m)))) (sym e) ∙ at-port commit
@@ -88,14 +74,6 @@ module _ (m : Module) (p : ℤ) where
     pub commit-refused : (n : ℕ) → finished (deskAt m p) ≡ refused n → _≡_ {A = Stepped} (record { answer = Refused n; after = m }) (commitOf m p)
     unfolding commitOf deskAt
     commit-refused n e = ap (λ (q : OrRefusal Card). stepped m (andThen q (didCommit aberzhan (sideOf p) (seen m)))) (sym e) ∙ at-port commit
-
-    pub drops : discarded (deskAt m p) ≡ accepted tt → _≡_ {A = Stepped} (record { answer = Done; after = deskPut m p shutDesk }) (dropOf m p)
-    unfolding dropOf deskPut deskAt
-    drops e = ap (λ (q : OrRefusal (Unit {0})). stepped m (andThen q (didDrop aberzhan (sideOf p) (seen m)))) (sym e) ∙ at-port dropCard
-
-    pub drop-refused : (n : ℕ) → discarded (deskAt m p) ≡ refused n → _≡_ {A = Stepped} (record { answer = Refused n; after = m }) (dropOf m p)
-    unfolding dropOf deskAt
-    drop-refused n e = ap (λ (q : OrRefusal (Unit {0})). stepped m (andThen q (didDrop aberzhan (sideOf p) (seen m)))) (sym e) ∙ at-port dropCard
 
     pub reads : (a : ByteAddr) → _≡_ {A = Stepped} (record { answer = looked (look (holdAt m p) a); after = m }) (readOf m p a)
     unfolding readOf holdAt
@@ -116,6 +94,24 @@ module _ (m : Module) (p : ℤ) where
     pub hold-14 : m .meter .work .some ≡ false → notHeld 14 m ≡ holdOf m p
     unfolding copied
     hold-14 e = held-at (refused 14) (simp e)
+
+  -- what was done at the port's desk: q, which is the step's outcome there
+  at-desk : (op : Op aberzhan) (q : OrRefusal Desk) → doneAt m (sideOf p) q ≡ stepped m (stepAt aberzhan (sideOf p) op (seen m)) → (b : Bool) → isPort p ≡ b →
+      cond b (doneAt m (sideOf p) q) (stepped m (refused 8)) ≡ stepped m (step aberzhan (atPort (portAt p) op) (seen m))
+  at-desk op q e true h = e ∙ at-port h op
+  at-desk op q e false h = refused-8 op h
+
+  pub opens : (text : List ℕ) → editedAt m p (desked (deskAt m p) (opening (deskAt m p) text)) ≡ openOf m p text
+  unfolding openOf editedAt deskPut deskAt
+  opens text = let q = opening (deskAt m p) text in at-desk (edit (openWith text)) q (edit-side m (sideOf p) q) (isPort p) refl
+
+  pub writes : (field v : ℤ) → editedAt m p (desked (deskAt m p) (writing (deskAt m p) field v)) ≡ writeOf m p field v
+  unfolding writeOf editedAt deskPut deskAt
+  writes field v = let q = writing (deskAt m p) field v in at-desk (edit (writeField field v)) q (edit-side m (sideOf p) q) (isPort p) refl
+
+  pub drops : editedAt m p (desked (deskAt m p) (dropping (deskAt m p))) ≡ dropOf m p
+  unfolding dropOf editedAt deskPut deskAt
+  drops = at-desk dropCard (dropping (deskAt m p)) (drop-side m (sideOf p) (discarded (deskAt m p))) (isPort p) refl
 
   pub hold-8 : isPort p ≡ false → notHeld 8 m ≡ holdOf m p
   unfolding holdOf

@@ -2,6 +2,7 @@
 use mathlib.Core.Bool.{Bool, _&&_, cond}
 use lib.IntN.{ℤ, pos}
 use lib.Signed.{leZ, ltZ}
+use Rattle.steps.specs.Answers.{refused}
 use Rattle.steps.specs.Port.{Port, port0, port1, on}
 use Rattle.steps.specs.Module.{withMeter, withDesk, withHeld}
 use Rattle.steps.specs.Gauge.{waitsFor}
@@ -13,7 +14,7 @@ use Rattle.port.specs.declared.holds.Held.{Held}
 use Rattle.aberzhan.specs.declared.Module.{Module}
 use Rattle.aberzhan.specs.declared.Stepped.{Stepped}
 use Rattle.aberzhan.specs.Ports.{aberzhan}
-use Rattle.aberzhan.specs.Module.{seen, kept}
+use Rattle.aberzhan.specs.Module.{seen, kept, stepped}
 
 unfoldable pub isPort : ℤ → Bool
 isPort p = leZ (pos 0) p && leZ p (pos 1)
@@ -37,5 +38,8 @@ holdPut m port h = kept (withHeld aberzhan (sideOf port) h (seen m))
 unfoldable pub waitPut : Module → Card → Module
 waitPut m c = kept (withMeter aberzhan (waitsFor core c (seenMeter (m .meter))) (seen m))
 
+-- what was done at a port's desk; 8 if it is no port
 unfoldable pub editedAt : Module → ℤ → Desked → Stepped
-editedAt m port did = record { answer = did .answer; after = deskPut m port (did .after) }
+editedAt m port did =
+    cond (isPort port) (record { answer = did .answer; after = deskPut m port (did .after) })
+    (stepped m (refused 8))

@@ -126,18 +126,6 @@ impl Module {
         self
     }
 
-    // What was done at a port's desk.
-    fn at_desk(self, port: i64, did: Desked) -> Stepped
-        ensures { λ r. ⌜ r ≡ editedAt self port did ⌝ }
-    {
-        let answer = did.answer;
-        let edited = self.with_desk(port, did.after);
-        Stepped {
-            answer,
-            after: edited,
-        }
-    }
-
     // Document 01's number, and the module as it came.
     fn refused(self, number: u8) -> Stepped
         ensures { λ r. ⌜ r ≡ stepped self (refused number) ⌝ }
@@ -148,28 +136,37 @@ impl Module {
         }
     }
 
+    // What was done at a port's desk: 8, before whatever the desk says.
+    fn at_desk(self, port: i64, did: Desked) -> Stepped
+        ensures { λ r. ⌜ r ≡ editedAt self port did ⌝ }
+    {
+        if is_port(port) {
+            let answer = did.answer;
+            let edited = self.with_desk(port, did.after);
+            return Stepped {
+                answer,
+                after: edited,
+            };
+        }
+        self.refused(8)
+    }
+
     // Open with a serial: 8, 9, 1.
     pub fn open(self, port: i64, serial: &[u8]) -> Stepped
         ensures { λ r. ⌜ r ≡ openOf self port (now (serial .entry)) ⌝ }
     {
-        if is_port(port) {
-            let d = self.desk(port);
-            let begun = d.open_with(serial);
-            return self.at_desk(port, begun);
-        }
-        self.refused(8)
+        let d = self.desk(port);
+        let begun = d.open_with(serial);
+        self.at_desk(port, begun)
     }
 
     // Write field, value: 8, 10, 11, 12.
     pub fn write(self, port: i64, field: i64, value: i64) -> Stepped
         ensures { λ r. ⌜ r ≡ writeOf self port field value ⌝ }
     {
-        if is_port(port) {
-            let d = self.desk(port);
-            let written = d.write_field(field, value);
-            return self.at_desk(port, written);
-        }
-        self.refused(8)
+        let d = self.desk(port);
+        let written = d.write_field(field, value);
+        self.at_desk(port, written)
     }
 
     // Commit: 8, 10, 13.
@@ -200,19 +197,9 @@ impl Module {
     pub fn drop(self, port: i64) -> Stepped
         ensures { λ r. ⌜ r ≡ dropOf self port ⌝ }
     {
-        if is_port(port) {
-            let d = self.desk(port);
-            if d.opened {
-                let blank = Desk::shut();
-                let dropped = self.with_desk(port, blank);
-                return Stepped {
-                    answer: Answer::Done,
-                    after: dropped,
-                };
-            }
-            return self.refused(10);
-        }
-        self.refused(8)
+        let d = self.desk(port);
+        let dropped = d.drop_card();
+        self.at_desk(port, dropped)
     }
 
     fn not_held(self, number: u8) -> Holding

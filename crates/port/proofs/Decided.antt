@@ -7,6 +7,8 @@ use Rattle.port.proofs.desks.Desk.open_with.Kinds as open-with-k
 use Rattle.port.proofs.desks.Desk.open_with.Reads as open-with
 use Rattle.port.proofs.desks.Desk.write_field.Kinds as write-field-k
 use Rattle.port.proofs.desks.Desk.write_field.Reads as write-field
+use Rattle.port.proofs.desks.Desk.drop_card.Kinds as drop-card-k
+use Rattle.port.proofs.desks.Desk.drop_card.Reads as drop-card
 use Rattle.port.proofs.desks.Desk.all_written.Kinds as all-written-k
 use Rattle.port.proofs.desks.Desk.all_written.Reads as all-written
 use Rattle.port.proofs.desks.Desk.card.Kinds as card-k
@@ -41,3 +43,6 @@ of-decided = record { always = λ κs a. tt; determined = λ κs a p z z′ ws w
 
 pub look-decided : Decided 0 look-k.ps look-k.r look.Pre look.Post
 look-decided = record { always = λ κs a. tt; determined = λ κs a p z z′ ws ws′ q q′. (q ∙ sym q′, refl) }
+
+pub drop-card-decided : Decided 0 drop-card-k.ps drop-card-k.r drop-card.Pre drop-card.Post
+drop-card-decided = record { always = λ κs a. tt; determined = λ κs a p z z′ ws ws′ q q′. (q ∙ sym q′, refl) }

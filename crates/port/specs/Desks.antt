@@ -4,7 +4,7 @@ use mathlib.Core.Bool.{Bool, true, false, cond}
 use mathlib.Core.List.{List}
 use lib.IntN.{ℤ, pos, natAbs}
 use lib.ListN.{getD, set, replicate}
-use Rattle.steps.specs.Answers.{OrRefusal, refused, accepted}
+use Rattle.steps.specs.Answers.{OrRefusal, refused, accepted, andThen}
 use Rattle.card.specs.declared.Serial.{Serial}
 use Rattle.card.specs.declared.Card.{Card}
 use Rattle.card.specs.Every.{every}
@@ -53,9 +53,12 @@ finished d =
     (refused 13))
     (refused 10)
 
--- drop: 10
+-- drop: 10. The desk is shut.
 unfoldable pub discarded : Desk → OrRefusal (Unit {0})
 discarded d = cond (d .opened) (accepted tt) (refused 10)
+
+abbrev pub dropping : Desk → OrRefusal Desk
+dropping d = andThen (discarded d) (λ u. shutDesk)
 
 -- what is done at a desk until a card is whole
 pub data Edit : Type 0 where

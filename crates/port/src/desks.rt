@@ -2,7 +2,7 @@
 ghost use mathlib.Core.Path.{_≡_};
 ghost use Prim.Native.Nat.{_<_};
 ghost use Rattle.steps.specs.Answers.{refused};
-ghost use Rattle.port.specs.Desks.{shutDesk, emptyCard, withField, opening, writing, allWritten, cardOn};
+ghost use Rattle.port.specs.Desks.{shutDesk, emptyCard, withField, opening, writing, dropping, allWritten, cardOn};
 ghost use Rattle.port.specs.Answers.{desked};
 use super::answers::Answer;
 use card::Card;
@@ -101,6 +101,20 @@ impl Desk {
                 return self.refused(12);
             }
             return self.refused(11);
+        }
+        self.refused(10)
+    }
+
+    // Drop: 10.
+    pub fn drop_card(self) -> Desked
+        ensures { λ r. ⌜ r ≡ desked self (dropping self) ⌝ }
+    {
+        if self.opened {
+            let shut = Desk::shut();
+            return Desked {
+                answer: Answer::Done,
+                after: shut,
+            };
         }
         self.refused(10)
     }

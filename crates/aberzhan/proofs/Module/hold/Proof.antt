@@ -1,8 +1,9 @@
 -- `hold` meets its contract.
-use mathlib.Core.Path.{_≡_, sym, _∙_}
+use mathlib.Core.Path.{_≡_, sym, ap, _∙_}
+use lib.IntN.{ℤ}
 use mir.Facts.{toZ-ofZ}
 use mathlib.Core.Bool.{true, false}
-use Rattle.aberzhan.specs.Inside.{isPort}
+use Rattle.aberzhan.specs.Inside.{isPort, holdPut}
 use Rattle.aberzhan.proofs.Steps.{holds, hold-14, hold-8}
 use borrow.Author.Needs.{needs}
 use Rattle.aberzhan.proofs.Module.hold.Statement.{statement}
@@ -28,7 +29,8 @@ returns c =
     let start = t .before .before in
     let m = start .args .self in
     let p = start .args .port in
-    rw (rw (toZ-ofZ (start .fits .port)) at (c .with-held .ensures), c .before .before .of .ensures) (holds m p (port t) (taken .if2 .taken))
+    let put = c .with-held .ensures ∙ ap (λ (q : ℤ). holdPut m q (c .before .before .of .result)) (toZ-ofZ (start .fits .port)) in
+    rw (put, c .before .before .of .ensures) (holds m p (port t) (taken .if2 .taken))
 
 not-held-requires : tie.Need-not-held-requires
 not-held-requires c κs = search needs

@@ -1,10 +1,10 @@
 -- `read` meets its contract.
-use mathlib.Core.Path.{_≡_, sym, _∙_}
+use mathlib.Core.Path.{_≡_, sym, ap, _∙_}
 use mir.Facts.{toZ-ofZ}
 use mathlib.Core.Bool.{true, false}
 use Rattle.steps.specs.Module.{read}
 use Rattle.aberzhan.specs.Module.{readOf}
-use Rattle.aberzhan.specs.Inside.{isPort}
+use Rattle.aberzhan.specs.Inside.{isPort, holdAt}
 use Rattle.aberzhan.proofs.Steps.{refused-8, reads}
 use borrow.Author.Needs.{needs}
 use Rattle.aberzhan.proofs.Module.read.Statement.{statement}
@@ -28,7 +28,7 @@ returns c =
     let start = c .before .before .before .before in
     let m = start .args .self in
     let p = start .args .port in
-    let h = rw (toZ-ofZ (start .fits .port)) at (c .before .held .ensures) in
+    let h = c .before .held .ensures ∙ ap (holdAt m) (toZ-ofZ (start .fits .port)) in
     rw (c .look .ensures, h) (reads m p (port (c .before .before)) (start .args .address))
 
 no-port : (c : tie.Else1) → isPort (c .before .before .args .port) ≡ false
