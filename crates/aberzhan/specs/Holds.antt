@@ -4,7 +4,7 @@ use mathlib.Core.Bool.{true, false, cond}
 use lib.IntN.{ℤ}
 use lib.ListN.{replicate}
 use Rattle.steps.specs.Answers.{OrRefusal, refused, accepted}
-use Rattle.card.specs.declared.Serial.{Serial}
+use Rattle.serial.specs.declared.Serial.{Serial}
 use Rattle.interval.specs.Tracking.{off}
 use Rattle.interval.specs.Close.{noneClosed}
 use Rattle.meter.specs.declared.Work.{Work}

@@ -5,7 +5,7 @@ ghost use Rattle.aberzhan.specs.Desks.{shutDesk, emptyCard, withField, o
 ghost use Rattle.aberzhan.specs.Answers.{desked};
 use super::answers::Answer;
 use card::Card;
-use card::Serial;
+use serial::Serial;
 
 // A card in the making: its serial, and for each of the eight fields the value and whether it was written. A shut desk is blank.
 pub struct Desk {
@@ -56,7 +56,7 @@ impl Desk {
                 after: self,
             };
         }
-        if card::is_serial(serial) {
+        if serial::is_serial(serial) {
             let s = Serial::of(serial);
             let d = Desk::begun(s);
             return Desked {

@@ -10,13 +10,13 @@ pub mod holds;
 
 use answers::Answer;
 use card::Card;
-use card::Serial;
 use desks::Desk;
 use desks::Desked;
 use holds::Held;
 use interval::addresses::ByteAddr;
 use interval::addresses::WordAddr;
 use meter::Meter;
+use serial::Serial;
 
 // What each step takes and hands back. Port k has the desk and the hold with its number.
 pub struct Module {

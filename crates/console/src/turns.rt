@@ -13,9 +13,9 @@ use aberzhan::Holding;
 use aberzhan::Module;
 use aberzhan::Stepped;
 use aberzhan::answers::Answer;
-use card::Serial;
 use interval::addresses::byte_addr;
 use interval::addresses::word_addr;
+use serial::Serial;
 
 // A longer line is not read.
 const LONGEST: usize = 131071;

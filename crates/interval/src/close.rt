@@ -9,7 +9,7 @@ use super::sums::Flow;
 use super::sums::Sums;
 use super::track::Ends;
 use card::Card;
-use card::Serial;
+use serial::Serial;
 
 // n: samples per interval; b: the bucket; track: the words that the six slots track.
 pub struct Settings {

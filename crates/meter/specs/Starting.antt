@@ -7,7 +7,7 @@ use lib.IntN.{ℤ, pos, natAbs}
 use lib.Signed.{leZ}
 use lib.ListN.{replicate}
 use Rattle.card.specs.declared.Card.{Card}
-use Rattle.card.specs.Serials.{noSerial}
+use Rattle.serial.specs.Serials.{noSerial}
 use Rattle.interval.specs.declared.addresses.WordAddr.{WordAddr}
 use Rattle.interval.specs.Addresses.{placeOf}
 use Rattle.interval.specs.Sums.{noSums}

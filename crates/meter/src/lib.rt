@@ -12,7 +12,6 @@ mod checks;
 mod samples;
 
 use card::Card;
-use card::Serial;
 use interval::addresses::WordAddr;
 use interval::close::Closed;
 use interval::close::Registers;
@@ -21,6 +20,7 @@ use interval::close::Source;
 use interval::energy::Energy;
 use interval::sums::Sums;
 use interval::track::Ends;
+use serial::Serial;
 
 // What outlives an interval, with the sums of the one that runs. some: whether any interval has closed; last: the one that closed last.
 pub struct Work {
