@@ -4,8 +4,8 @@ use Rattle.number.specs.Range.{in24, clipped, heldWithin}
 use Rattle.number.specs.Sign.{withSign, lessened}
 use Rattle.number.specs.Rounding.{floorDiv, towardZero}
 use Rattle.number.specs.Root.{rootOf, rootBy}
-use Rattle.card.specs.Every.{every}
-use Rattle.card.specs.Serials.{digitsOk, isSerial, padded, serialOf}
+use Rattle.serial.specs.Every.{every}
+use Rattle.serial.specs.Serials.{digitsOk, isSerial, padded, serialOf}
 use Rattle.card.specs.Fields.{lows, highs, fitsField, isField, fieldInRange}
 use Rattle.sample.specs.Sample.{every24, corrected, mixed, voltage, current, phased}
 use Rattle.sample.specs.Sums.{joined, previous, summed, added, emptied}

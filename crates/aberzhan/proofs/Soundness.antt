@@ -13,10 +13,10 @@ use Rattle.steps.specs.Answers.{refused, accepted}
 use Rattle.steps.specs.Gauge.{latest}
 use Rattle.steps.specs.Calls.{Sound}
 use Rattle.steps.proofs.Outcomes.{refused-never, accepted-is}
-use Rattle.card.specs.declared.Serial.{Serial}
+use Rattle.serial.specs.declared.Serial.{Serial}
 use Rattle.card.specs.declared.Card.{Card}
-use Rattle.card.specs.Every.{and-right}
-use Rattle.card.specs.Serials.{isSerial, serialOf}
+use Rattle.serial.specs.Every.{and-right}
+use Rattle.serial.specs.Serials.{isSerial, serialOf}
 use Rattle.card.specs.Fields.{lows, highs, isField, fitsField, fieldInRange}
 use Rattle.address.specs.declared.WordAddr.{WordAddr}
 use Rattle.address.specs.Slots.{off, everySlot}

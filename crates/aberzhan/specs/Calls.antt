@@ -6,7 +6,7 @@ use lib.IntN.{ℤ, pos}
 use Rattle.steps.specs.Port.{Port, port0, port1, PerPort, on, putOn, onBoth}
 use Rattle.steps.specs.Module.{Op, edit, commit, dropCard, hold, read, Step, atPort, block}
 use Rattle.steps.specs.Calls.{Reply, refuses, done, returns}
-use Rattle.card.specs.declared.Serial.{Serial}
+use Rattle.serial.specs.declared.Serial.{Serial}
 use Rattle.address.specs.declared.ByteAddr.{ByteAddr}
 use Rattle.port.specs.declared.answers.Answer.{Answer}
 use Rattle.port.specs.declared.answers.Answer.the-variants.{Done, Value, Refused}

@@ -12,7 +12,7 @@ use Rattle.steps.specs.Module.{Op, edit, hold, read, Step, atPort, block}
 use Rattle.steps.specs.Run.{run}
 use Rattle.steps.specs.Shorter.{Act, plain, card, stepsOf, shorter}
 use Rattle.steps.specs.OneCard.{Interval, tagged, intervals, outset}
-use Rattle.card.specs.declared.Serial.{Serial}
+use Rattle.serial.specs.declared.Serial.{Serial}
 use Rattle.card.specs.declared.Card.{Card}
 use Rattle.address.specs.declared.WordAddr.{WordAddr}
 use Rattle.address.specs.declared.ByteAddr.{ByteAddr}

@@ -5,8 +5,8 @@ use mathlib.Core.List.{List}
 use lib.IntN.{ℤ}
 use Rattle.steps.specs.Answers.{refused, accepted}
 use Rattle.steps.specs.Module.{Op, edit, commit, dropCard, hold, read, atPort, State, fresh, withMeter, Report, silent, commits, tells, closes, Outcome, step}
-use Rattle.card.specs.declared.Serial.{Serial}
-use Rattle.card.specs.Serials.{noSerial}
+use Rattle.serial.specs.declared.Serial.{Serial}
+use Rattle.serial.specs.Serials.{noSerial}
 use Rattle.address.specs.declared.WordAddr.{WordAddr}
 use Rattle.address.specs.declared.ByteAddr.{ByteAddr}
 use Rattle.meter.specs.declared.Meter.{Meter}

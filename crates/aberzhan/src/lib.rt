@@ -7,12 +7,12 @@ ghost use Rattle.aberzhan.specs.Answers.{measured};
 use address::ByteAddr;
 use address::WordAddr;
 use card::Card;
-use card::Serial;
 use meter::Meter;
 use port::answers::Answer;
 use port::desks::Desk;
 use port::desks::Desked;
 use port::holds::Held;
+use serial::Serial;
 
 // What each step takes and hands back. Port k has the desk and the hold with its number.
 pub struct Module {

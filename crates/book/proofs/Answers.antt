@@ -10,7 +10,7 @@ use lib.Dec.{eqb}
 use types.Run.{OneOf}
 use denote.Enum.Declared.{tagOf}
 use borrow.Author.Tests.{not-true, ltb-true}
-use Rattle.card.specs.Serials.{isSerial}
+use Rattle.serial.specs.Serials.{isSerial}
 use Rattle.section.specs.Sections.{placeOf, findIn, has}
 use Rattle.book.specs.Book.{cards, withdrawn, wellFormed}
 use Rattle.book.specs.Answers.{Answer, accepted, ask, foundAnswer}

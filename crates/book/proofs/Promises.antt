@@ -8,11 +8,11 @@ use lib.ListN.{length, getD, take, length-take}
 use lib.Seq.{take-take, getD-take}
 use lib.Dec.{leb, eqb}
 use borrow.Author.Tests.{lt-ltb, leb-true}
-use Rattle.card.specs.Every.{every, every-at, every-same, first-passes, first-at, and-left, and-right}
-use Rattle.card.specs.Places.{part, length-part}
-use Rattle.card.specs.Serials.{isSerial, serialOf, serialBytes, placeOk, holdsSerial, textOf}
+use Rattle.serial.specs.Every.{every, every-at, every-same, first-passes, first-at, and-left, and-right}
+use Rattle.serial.specs.Places.{part, length-part}
+use Rattle.serial.specs.Serials.{isSerial, serialOf, serialBytes, placeOk, holdsSerial, textOf}
 use Rattle.card.specs.Cards.{fieldsOk}
-use Rattle.card.proofs.Serials.{length-bytes, byte-length, serial-short, text-back, text-serial, bytes-back}
+use Rattle.serial.proofs.Serials.{length-bytes, byte-length, serial-short, text-back, text-serial, bytes-back}
 use Rattle.section.specs.Sections.{placeOf, entryAt, serialAt, entryOk, entriesOk, same, fresh, distinct, sectionOk, firstOf, findIn, has}
 use Rattle.book.specs.Book.{cards, withdrawn, sized, Sized, wellFormed}
 use Rattle.book.specs.Answers.{accepted}

@@ -3,8 +3,8 @@ use Prim.Native.Nat.{ℕ}
 use mathlib.Core.Bool.{cond, not}
 use mathlib.Core.List.{List, []}
 use lib.Dec.{eqb}
-use Rattle.card.specs.Places.{part}
-use Rattle.card.specs.Serials.{isSerial}
+use Rattle.serial.specs.Places.{part}
+use Rattle.serial.specs.Serials.{isSerial}
 use Rattle.section.specs.Sections.{placeOf, findIn, has}
 use Rattle.book.specs.Book.{cards, withdrawn, wellFormed}
 use Rattle.book.specs.Answers.{Answer, accepted, ask}

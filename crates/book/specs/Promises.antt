@@ -3,8 +3,8 @@ use Prim.Native.Nat.{ℕ, _<_}
 use mathlib.Core.Path.{_≡_}
 use mathlib.Core.Bool.{true, false}
 use mathlib.Core.List.{List}
-use Rattle.card.specs.Places.{part}
-use Rattle.card.specs.Serials.{textOf}
+use Rattle.serial.specs.Places.{part}
+use Rattle.serial.specs.Serials.{textOf}
 use Rattle.section.specs.Sections.{placeOf, entryAt, has}
 use Rattle.book.specs.Book.{cards, withdrawn, wellFormed}
 use Rattle.book.specs.Answers.{accepted}

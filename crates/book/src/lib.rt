@@ -20,8 +20,8 @@ fn count_at(b: &[u8], at: usize) -> usize
     requires { ⌜ at ≤ 2424797 ⌝ }
     ensures { λ r. ⌜ (r ≡ countAt (now (b .entry)) at) × (r ≤ 65535) ⌝ }
 {
-    let low = card::byte_at(b, at);
-    let high = card::byte_at(b, at + 1);
+    let low = serial::byte_at(b, at);
+    let high = serial::byte_at(b, at + 1);
     low as usize + 256 * high as usize
 }
 
@@ -90,7 +90,7 @@ fn seek(b: &[u8], text: &[u8]) -> Found
 pub fn lookup(book: &[u8], text: &[u8]) -> Found
     ensures { λ r. ⌜ foundAnswer r ≡ lookupOf (now (book .entry)) (now (text .entry)) ⌝ }
 {
-    if !card::is_serial(text) {
+    if !serial::is_serial(text) {
         return Found::NotSerial;
     }
     if !is_book(book) {

@@ -11,9 +11,9 @@ use lib.Signed.{ltZ}
 use lib.ListN.{length, getD, take}
 use borrow.Author.Tests.{le-ltb}
 use lib.Seq.{take-all}
-use Rattle.card.specs.declared.Serial.{Serial}
-use Rattle.card.specs.Places.{put, front-put}
-use Rattle.card.specs.Serials.{serialBytes}
+use Rattle.serial.specs.declared.Serial.{Serial}
+use Rattle.serial.specs.Places.{put, front-put}
+use Rattle.serial.specs.Serials.{serialBytes}
 use Rattle.card.specs.Cards.{bits24, threeBytes, fieldsBytes, cardBytes}
 
 -- ---- the last 24 bits, by the size

@@ -1,5 +1,4 @@
 -- Laws and theorems of the card that other proofs cite.
-pub mod Serials
 pub mod Fields
 pub mod Cards
 pub mod RoundTrip

@@ -11,13 +11,13 @@ use lib.ListN.{length, getD, length-append, List·getD-append}
 use lib.Seq.{getD-append-add, ext-getD}
 use lib.Dec.{ltb}
 use borrow.Author.Tests.{ltb-true, ltb-false, lt-ltb, le-ltb, eq-eqb}
-use Rattle.card.specs.Every.{every-from, both}
-use Rattle.card.specs.Places.{tab-at, tab-of, tab-same, length-tab}
-use Rattle.card.specs.Serials.{isSerial, serialOf, serialBytes}
+use Rattle.serial.specs.Every.{every-from, both}
+use Rattle.serial.specs.Places.{tab-at, tab-of, tab-same, length-tab}
+use Rattle.serial.specs.Serials.{isSerial, serialOf, serialBytes}
 use Rattle.card.specs.Fields.{fitsField}
 use Rattle.card.specs.Cards.{bits24, threeBytes, fieldsBytes, cardBytes, threeAt, signed24, valueOf, fieldAt, digitsAt, fieldsAt, cardOf, fieldsOk, isCard}
-use Rattle.card.specs.declared.Serial.{Serial}
-use Rattle.card.proofs.Serials.{bytes-hold, length-padded, serial-short}
+use Rattle.serial.specs.declared.Serial.{Serial}
+use Rattle.serial.proofs.Serials.{bytes-hold, length-padded, serial-short}
 use Rattle.card.proofs.Fields.{Value, value-in}
 use Rattle.card.proofs.Cards.{three-length}
 

@@ -5,11 +5,11 @@ use mathlib.Core.List.{List, [], _∷_, _++_}
 use lib.IntN.{ℤ, pos, negsuc}
 use lib.ListN.{length, getD}
 use lib.Dec.{ltb, eqb}
-use Rattle.card.specs.Every.{every}
-use Rattle.card.specs.Places.{tab}
-use Rattle.card.specs.Serials.{serialBytes, holdsSerial}
+use Rattle.serial.specs.Every.{every}
+use Rattle.serial.specs.Places.{tab}
+use Rattle.serial.specs.Serials.{serialBytes, holdsSerial}
 use Rattle.card.specs.Fields.{fitsField}
-use Rattle.card.specs.declared.Serial.{Serial}
+use Rattle.serial.specs.declared.Serial.{Serial}
 use Rattle.card.specs.declared.Card.{Card}
 
 -- ---- from values to bytes

@@ -5,7 +5,7 @@ use mathlib.Core.List.{List, [], _∷_}
 use lib.IntN.{ℤ, pos, negsuc, natAbs}
 use lib.ListN.{getD}
 use lib.Signed.{leZ}
-use Rattle.card.specs.Every.{every}
+use Rattle.serial.specs.Every.{every}
 
 -- the least value of each field, in order: VOFFS, IOFFS, VGAIN, IGAIN, PHASE, IRMSOFFS, SQUELCH, POFFS
 unfoldable pub lows : List ℤ

@@ -1,6 +1,3 @@
--- What a serial and a card are, and the laws of lists that every part above cites.
-pub mod Every
-pub mod Places
-pub mod Serials
+-- What a card is, from document 01: its fields and their ranges, and its 37 bytes.
 pub mod Fields
 pub mod Cards

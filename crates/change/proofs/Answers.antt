@@ -12,11 +12,11 @@ use lib.Dec.{leb, ltb, eqb}
 use types.Run.{OneOf}
 use denote.Enum.Declared.{tagOf}
 use borrow.Author.Tests.{not-true, ltb-true, leb-true}
-use Rattle.card.specs.Every.{and-left, and-right}
-use Rattle.card.specs.Serials.{isSerial, serialOf, serialBytes}
+use Rattle.serial.specs.Every.{and-left, and-right}
+use Rattle.serial.specs.Serials.{isSerial, serialOf, serialBytes}
 use Rattle.card.specs.Fields.{valuesFit}
 use Rattle.card.specs.Cards.{cardBytes}
-use Rattle.card.proofs.Serials.{length-bytes}
+use Rattle.serial.proofs.Serials.{length-bytes}
 use Rattle.card.proofs.RoundTrip.{length-card, twelve-places}
 use Rattle.section.specs.Sections.{has}
 use Rattle.section.specs.declared.Section.{Section}

@@ -7,8 +7,8 @@ use native.Mathlib.Omega.{arith}
 use lib.ListN.{length, getD}
 use lib.Seq.{ext-getD}
 use borrow.Author.Tests.{le-leb, eq-eqb}
-use Rattle.card.specs.Every.{both}
-use Rattle.card.specs.Places.{part, length-part, part-at, parts-same}
+use Rattle.serial.specs.Every.{both}
+use Rattle.serial.specs.Places.{part, length-part, part-at, parts-same}
 use Rattle.section.specs.Sections.{endOf, entryAt}
 use Rattle.book.specs.Book.{countAt, cards, withdrawn, sized, Sized}
 use Rattle.change.specs.Change.{countBytes}

@@ -8,12 +8,12 @@ use lib.IntN.{ℤ, pos}
 use lib.ListN.{length, getD, take}
 use lib.Dec.{eqb}
 use borrow.Author.Tests.{lt-ltb, le-leb, eqb-true, eq-eqb}
-use Rattle.card.specs.Every.{and-left, and-right, both, every-at}
-use Rattle.card.specs.Places.{put, front-put}
-use Rattle.card.specs.Serials.{isSerial, serialOf, serialBytes}
+use Rattle.serial.specs.Every.{and-left, and-right, both, every-at}
+use Rattle.serial.specs.Places.{put, front-put}
+use Rattle.serial.specs.Serials.{isSerial, serialOf, serialBytes}
 use Rattle.card.specs.Fields.{fitsField, valuesFit}
 use Rattle.card.specs.Cards.{cardBytes, cardOf}
-use Rattle.card.proofs.Serials.{length-bytes, bytes-hold}
+use Rattle.serial.proofs.Serials.{length-bytes, bytes-hold}
 use Rattle.card.proofs.RoundTrip.{length-card, twelve-places, new-card, card-back}
 use Rattle.section.specs.Sections.{placeOf, endOf, entryAt, serialAt, entryOk, sectionOk, findIn, has}
 use Rattle.book.specs.Book.{cards, withdrawn, sized, Sized, wellFormed}

@@ -6,8 +6,8 @@ use mathlib.Core.List.{List, [], _∷_, _++_}
 use lib.IntN.{ℤ}
 use lib.ListN.{length, take, drop}
 use lib.Dec.{leb, ltb, eqb}
-use Rattle.card.specs.Places.{part, put}
-use Rattle.card.specs.Serials.{isSerial, serialOf, serialBytes}
+use Rattle.serial.specs.Places.{part, put}
+use Rattle.serial.specs.Serials.{isSerial, serialOf, serialBytes}
 use Rattle.card.specs.Fields.{valuesFit}
 use Rattle.card.specs.Cards.{cardBytes}
 use Rattle.section.specs.Sections.{endOf, has}

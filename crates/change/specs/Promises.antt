@@ -5,7 +5,7 @@ use mathlib.Core.Bool.{true, false}
 use mathlib.Core.List.{List}
 use lib.IntN.{ℤ}
 use lib.ListN.{length, take}
-use Rattle.card.specs.Serials.{serialOf}
+use Rattle.serial.specs.Serials.{serialOf}
 use Rattle.card.specs.Cards.{cardBytes, cardOf}
 use Rattle.section.specs.Sections.{endOf, has}
 use Rattle.book.specs.Book.{cards, withdrawn, wellFormed}

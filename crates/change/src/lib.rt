@@ -4,7 +4,7 @@ ghost use mathlib.Core.Path.{_≡_};
 ghost use Prim.Native.Nat.{_+_, _-_, _≤_};
 ghost use lib.ListN.{length, take};
 ghost use lib.Dec.{eqb};
-ghost use Rattle.card.specs.Places.{part, put};
+ghost use Rattle.serial.specs.Places.{part, put};
 ghost use Rattle.change.specs.Answers.{changedAnswer};
 ghost use Rattle.change.specs.Change.{bookIn, countBytes, withEntry, Takes, roomFor, Ready, bufferAfter, addAnswer, added, withdrawAnswer, afterWithdraw};
 
@@ -50,8 +50,8 @@ fn insert(b: &mut [u8], used: usize, s: Section, x: &[u8])
     let at = base + n * size;
     let count = count_bytes(n + 1);
     move_up(b, at, used, x.len());
-    card::put_at(b, at, x);
-    card::put_at(b, base - 2, &count);
+    serial::put_at(b, at, x);
+    serial::put_at(b, base - 2, &count);
 }
 
 // Whether the first used bytes of a buffer are a well-formed book.
@@ -109,7 +109,7 @@ fn enter(buffer: &mut [u8], used: usize, s: Section, limit: usize, text: &[u8], 
 pub fn add(buffer: &mut [u8], used: usize, text: &[u8], values: [i64; 8]) -> Changed
     ensures { λ r. ⌜ (changedAnswer r ≡ addAnswer (now (buffer .entry)) used (now (text .entry)) values) × (now (buffer .exit) ≡ added (now (buffer .entry)) used (now (text .entry)) values) ⌝ }
 {
-    if !card::is_serial(text) {
+    if !serial::is_serial(text) {
         return Changed::NotSerial;
     }
     if !card::values_fit(values) {
@@ -119,7 +119,7 @@ pub fn add(buffer: &mut [u8], used: usize, text: &[u8], values: [i64; 8]) -> Cha
         return Changed::Malformed;
     }
     let s = book::cards(&buffer[0..used]);
-    let x = card::card_bytes(card::Serial::of(text), values);
+    let x = card::card_bytes(serial::Serial::of(text), values);
     enter(buffer, used, s, 1024, text, &x)
 }
 
@@ -127,13 +127,13 @@ pub fn add(buffer: &mut [u8], used: usize, text: &[u8], values: [i64; 8]) -> Cha
 pub fn withdraw(buffer: &mut [u8], used: usize, text: &[u8]) -> Changed
     ensures { λ r. ⌜ (changedAnswer r ≡ withdrawAnswer (now (buffer .entry)) used (now (text .entry))) × (now (buffer .exit) ≡ afterWithdraw (now (buffer .entry)) used (now (text .entry))) ⌝ }
 {
-    if !card::is_serial(text) {
+    if !serial::is_serial(text) {
         return Changed::NotSerial;
     }
     if !book_in(&*buffer, used) {
         return Changed::Malformed;
     }
     let s = book::withdrawn(&buffer[0..used]);
-    let x = card::Serial::of(text).bytes();
+    let x = serial::Serial::of(text).bytes();
     enter(buffer, used, s, 512, text, &x)
 }

@@ -3,8 +3,8 @@ ghost use Prim.Native.Nat.{_≤_, _<_};
 ghost use lib.ListN.{length};
 use super::turns::Said;
 use super::turns::Turn;
-use card::Serial;
 use libc::STDOUT_FILENO;
+use serial::Serial;
 
 // Puts a text behind the bytes that are used, and gives the number of bytes used then.
 fn put(out: &mut [u8], used: usize, text: &[u8]) -> usize

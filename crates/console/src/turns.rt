@@ -14,8 +14,8 @@ use aberzhan::Module;
 use aberzhan::Stepped;
 use address::byte_addr;
 use address::word_addr;
-use card::Serial;
 use port::answers::Answer;
+use serial::Serial;
 
 // A longer line is not read.
 const LONGEST: usize = 131071;

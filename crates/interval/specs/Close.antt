@@ -5,7 +5,7 @@ use mathlib.Core.List.{List, _∷_}
 use lib.IntN.{ℤ, pos}
 use lib.ListN.{replicate}
 use Rattle.card.specs.declared.Card.{Card}
-use Rattle.card.specs.Serials.{noSerial}
+use Rattle.serial.specs.Serials.{noSerial}
 use Rattle.sample.specs.declared.Flow.{Flow}
 use Rattle.sample.specs.declared.Sums.{Sums}
 use Rattle.interval.specs.declared.close.Settings.{Settings}

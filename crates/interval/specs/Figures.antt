@@ -5,7 +5,7 @@ use mathlib.Core.List.{List, [], _∷_, map}
 use lib.IntN.{ℤ, pos, negsuc}
 use lib.ListN.{getD, set, length, replicate}
 use Rattle.card.specs.declared.Card.{Card}
-use Rattle.card.specs.Serials.{noSerial}
+use Rattle.serial.specs.Serials.{noSerial}
 use Rattle.energy.specs.declared.Energy.{Energy}
 use Rattle.interval.specs.declared.close.Settings.{Settings}
 use Rattle.interval.specs.declared.close.Registers.{Registers}

@@ -5,10 +5,10 @@ ghost use Rattle.interval.specs.Close.{sourceAfter, sevenOf, registersAf
 use super::track::Ends;
 use address::WordAddr;
 use card::Card;
-use card::Serial;
 use energy::Energy;
 use sample::Flow;
 use sample::Sums;
+use serial::Serial;
 
 // n: samples per interval; b: the bucket; track: the words that the six slots track.
 pub struct Settings {

@@ -2,10 +2,10 @@
 use aberzhan::Module;
 use aberzhan::Stepped;
 use address::WordAddr;
-use card::Serial;
 use change::Changed;
 use libc::STDOUT_FILENO;
 use port::answers::Answer;
+use serial::Serial;
 
 fn say(text: &[u8]) {
     io::write_all(STDOUT_FILENO, text);
@@ -111,13 +111,13 @@ fn serial_text(k: usize) -> [u8; 4] {
 // Lays 1,023 cards into a buffer, as a book.
 fn lay_cards(buffer: &mut [u8]) {
     let count = [255u8, 3];
-    card::put_at(buffer, 0, &count);
+    serial::put_at(buffer, 0, &count);
     let mut k: usize = 0;
     while k < 1023 {
         let text = serial_text(k);
         let serial = Serial::of(&text);
         let bytes = card::card_bytes(serial, PLAIN);
-        card::put_at(buffer, 2 + 37 * k, &bytes);
+        serial::put_at(buffer, 2 + 37 * k, &bytes);
         k += 1;
     }
 }

@@ -3,9 +3,9 @@ use mathlib.Core.Path.{_≡_, refl}
 use mathlib.Core.List.{List, [], _∷_, _++_}
 use Prim.Native.Nat.{ℕ}
 use lib.ListN.{replicate}
-use Rattle.card.specs.Every.{every}
-use Rattle.card.specs.Places.{part, tab}
-use Rattle.card.specs.Serials.{placeOk, holdsSerial, textOf}
+use Rattle.serial.specs.Every.{every}
+use Rattle.serial.specs.Places.{part, tab}
+use Rattle.serial.specs.Serials.{placeOk, holdsSerial, textOf}
 use Rattle.card.specs.Fields.{lows, highs, fitsField}
 use Rattle.card.specs.Cards.{threeAt, signed24, valueOf, fieldAt, fieldsAt, fieldsOk}
 use Rattle.section.specs.Sections.{lies, entryAt, serialAt, entryOk, entriesOk, same, fresh, distinct, sectionOk}

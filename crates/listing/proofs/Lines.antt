@@ -13,9 +13,9 @@ use mir.Syntax.{w64}
 use mir.Val.{toZ}
 use mir.Facts.{toZ-pos}
 use borrow.Author.Tests.{le-ltb}
-use Rattle.card.specs.Places.{part, put, put-none, put-more, tab, length-tab}
+use Rattle.serial.specs.Places.{part, put, put-none, put-more, tab, length-tab}
 use Rattle.card.specs.Cards.{fieldAt, fieldsAt}
-use Rattle.card.specs.Serials.{textOf}
+use Rattle.serial.specs.Serials.{textOf}
 use Rattle.listing.specs.Numbers.{decimal, signedDecimal}
 use Rattle.listing.specs.Lines.{fieldsText}
 use Rattle.listing.proofs.Numbers.{store-before, signed-length}

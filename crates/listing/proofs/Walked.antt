@@ -5,7 +5,7 @@ use mathlib.Core.Bool.{true, cond}
 use mathlib.Core.List.{List, [], _++_, append-nil, append-assoc}
 use native.Mathlib.Omega.{arith}
 use borrow.Author.Tests.{lt-ltb}
-use Rattle.card.specs.Places.{part}
+use Rattle.serial.specs.Places.{part}
 use Rattle.section.specs.Sections.{placeOf, entryAt}
 use Rattle.book.specs.Book.{cards, withdrawn, wellFormed}
 use Rattle.reader.specs.declared.Step.{Step}

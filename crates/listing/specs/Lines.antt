@@ -5,8 +5,8 @@ use mathlib.Core.Bool.{true, cond}
 use mathlib.Core.List.{List, [], _∷_, _++_}
 use lib.IntN.{ℤ}
 use lib.Dec.{ltb}
-use Rattle.card.specs.Places.{part}
-use Rattle.card.specs.Serials.{textOf}
+use Rattle.serial.specs.Places.{part}
+use Rattle.serial.specs.Serials.{textOf}
 use Rattle.card.specs.Cards.{fieldsAt}
 use Rattle.section.specs.Sections.{entryAt}
 use Rattle.book.specs.Book.{cards, withdrawn, wellFormed}

@@ -3,9 +3,9 @@ ghost use mathlib.Core.Path.{_≡_};
 ghost use Prim.Native.Nat.{_+_, _≤_, _<_};
 ghost use lib.IntN.{natAbs};
 ghost use lib.ListN.{length, drop};
-ghost use Rattle.card.specs.Places.{part, put};
+ghost use Rattle.serial.specs.Places.{part, put};
 ghost use Rattle.listing.specs.Numbers.{decimal, signedDecimal};
-ghost use Rattle.card.specs.Serials.{textOf};
+ghost use Rattle.serial.specs.Serials.{textOf};
 ghost use Rattle.listing.specs.Lines.{fieldsText, cardText, serialText, refusedLine, firstLine, entryLine};
 
 // A number as text: the bytes from a place on.
@@ -53,7 +53,7 @@ fn put_text(line: &mut [u8; 160], at: usize, text: &[u8]) -> usize
     requires { ⌜ at + length (now text) ≤ 160 ⌝ }
     ensures { λ r. ⌜ (r ≡ at + length (now (text .entry))) × (now (line .exit) ≡ put (now (line .entry)) at (now (text .entry))) × (length (now (line .entry)) ≡ 160) ⌝ }
 {
-    card::put_at(line, at, text);
+    serial::put_at(line, at, text);
     at + text.len()
 }
 
@@ -87,7 +87,7 @@ fn part_of(b: &[u8], at: usize, n: usize) -> &[u8]
 fn text_of(e: &[u8]) -> &[u8]
     ensures { λ r. ⌜ now r ≡ textOf (now (e .entry)) ⌝ }
 {
-    let n = card::byte_at(e, 0);
+    let n = serial::byte_at(e, 0);
     part_of(e, 1, n as usize)
 }
 

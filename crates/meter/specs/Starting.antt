@@ -6,7 +6,7 @@ use lib.IntN.{ℤ, pos, natAbs}
 use lib.Signed.{leZ}
 use lib.ListN.{replicate}
 use Rattle.card.specs.declared.Card.{Card}
-use Rattle.card.specs.Serials.{noSerial}
+use Rattle.serial.specs.Serials.{noSerial}
 use Rattle.address.specs.declared.WordAddr.{WordAddr}
 use Rattle.address.specs.Slots.{off, everySlot}
 use Rattle.sample.specs.Sums.{noSums}

@@ -13,10 +13,10 @@ mod samples;
 
 use address::WordAddr;
 use card::Card;
-use card::Serial;
 use interval::close::Closed;
 use interval::close::Settings;
 use sample::Sums;
+use serial::Serial;
 
 // What outlives an interval, with the sums of the one that runs. some: whether any interval has closed; last: the one that closed last.
 pub struct Work {

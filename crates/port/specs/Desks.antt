@@ -5,10 +5,10 @@ use mathlib.Core.List.{List}
 use lib.IntN.{ℤ, pos, natAbs}
 use lib.ListN.{getD, set, replicate}
 use Rattle.steps.specs.Answers.{OrRefusal, refused, accepted, andThen}
-use Rattle.card.specs.declared.Serial.{Serial}
+use Rattle.serial.specs.declared.Serial.{Serial}
 use Rattle.card.specs.declared.Card.{Card}
-use Rattle.card.specs.Every.{every}
-use Rattle.card.specs.Serials.{noSerial, isSerial, serialOf}
+use Rattle.serial.specs.Every.{every}
+use Rattle.serial.specs.Serials.{noSerial, isSerial, serialOf}
 use Rattle.card.specs.Fields.{isField, fieldInRange}
 use Rattle.port.specs.declared.desks.Desk.{Desk}
 

@@ -5,7 +5,7 @@ use mathlib.Core.List.{List}
 use lib.IntN.{ℤ}
 use lib.ListN.{replicate}
 use Rattle.steps.specs.Answers.{OrRefusal, refused, accepted}
-use Rattle.card.specs.declared.Serial.{Serial}
+use Rattle.serial.specs.declared.Serial.{Serial}
 use Rattle.address.specs.declared.WordAddr.{WordAddr}
 use Rattle.interval.specs.declared.close.Closed.{Closed}
 use Rattle.address.specs.Slots.{off}

@@ -6,7 +6,7 @@ use mathlib.Core.List.{List, [], _∷_, _++_, map}
 use lib.IntN.{ℤ, pos}
 use lib.ListN.{replicate}
 use Rattle.steps.specs.Answers.{OrRefusal, refused, accepted}
-use Rattle.card.specs.Serials.{noSerial}
+use Rattle.serial.specs.Serials.{noSerial}
 use Rattle.address.specs.declared.WordAddr.{WordAddr}
 use Rattle.interval.specs.declared.close.Registers.{Registers}
 use Rattle.address.specs.Slots.{off}

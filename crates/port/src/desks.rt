@@ -6,7 +6,7 @@ ghost use Rattle.port.specs.Desks.{shutDesk, emptyCard, withField, openi
 ghost use Rattle.port.specs.Answers.{desked};
 use super::answers::Answer;
 use card::Card;
-use card::Serial;
+use serial::Serial;
 
 // A card in the making: its serial, and for each of the eight fields the value and whether it was written. A shut desk is blank.
 pub struct Desk {
@@ -64,7 +64,7 @@ impl Desk {
         if self.opened {
             return self.refused(9);
         }
-        if card::is_serial(serial) {
+        if serial::is_serial(serial) {
             let s = Serial::of(serial);
             let d = Desk::begun(s);
             return Desked {

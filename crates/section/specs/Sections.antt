@@ -4,9 +4,9 @@ use mathlib.Core.Bool.{Bool, cond, not, _&&_}
 use mathlib.Core.List.{List}
 use lib.ListN.{length, getD}
 use lib.Dec.{leb, ltb, eqb}
-use Rattle.card.specs.Every.{every, first}
-use Rattle.card.specs.Places.{part}
-use Rattle.card.specs.Serials.{serialOf, serialBytes, holdsSerial}
+use Rattle.serial.specs.Every.{every, first}
+use Rattle.serial.specs.Places.{part}
+use Rattle.serial.specs.Serials.{serialOf, serialBytes, holdsSerial}
 use Rattle.card.specs.Cards.{isCard}
 use Rattle.section.specs.declared.Section.{Section}
 

@@ -2,7 +2,7 @@
 ghost use mathlib.Core.Path.{_≡_};
 ghost use Prim.Native.Nat.{_+_, _*_, _-_, _≤_, _<_};
 ghost use lib.ListN.{length};
-ghost use Rattle.card.specs.Places.{part};
+ghost use Rattle.serial.specs.Places.{part};
 ghost use Rattle.section.specs.Sections.{Lies, lies, entryOk, entriesOk, same, distinct, sectionOk, firstOf, findIn, has};
 
 // A section: where its first entry begins, how many bytes an entry has, and how many entries there are.
@@ -32,7 +32,7 @@ fn entry_ok(e: &[u8], size: usize) -> bool
     if size == 37 {
         card::is_card(e)
     } else {
-        card::holds_serial(e)
+        serial::holds_serial(e)
     }
 }
 
@@ -139,7 +139,7 @@ pub fn find(b: &[u8], s: Section, text: &[u8]) -> usize
     if !lies(b, s) {
         return s.count;
     }
-    let key = card::Serial::of(text).bytes();
+    let key = serial::Serial::of(text).bytes();
     first_of(b, s, &key)
 }
 

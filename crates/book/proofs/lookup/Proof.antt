@@ -3,7 +3,7 @@ use mathlib.Core.Path.{_≡_, sym, _∙_}
 use mathlib.Core.Bool.{true}
 use denote.Ref.{now}
 use borrow.Author.Tests.{not-true, not-false}
-use Rattle.card.specs.Serials.{isSerial}
+use Rattle.serial.specs.Serials.{isSerial}
 use Rattle.book.specs.Book.{wellFormed}
 use Rattle.book.specs.Lookup.{lookupOf}
 use borrow.Author.Needs.{needs}

@@ -4,7 +4,7 @@ use mathlib.Core.Path.{_≡_, refl}
 use native.Mathlib.Omega.{arith}
 use lib.ListN.{length, getD, take, length-set, replicate}
 use denote.Ref.{now}
-use Rattle.card.specs.Places.{tab, fill-none, fill-more, fill-all}
+use Rattle.serial.specs.Places.{tab, fill-none, fill-more, fill-all}
 use Rattle.card.specs.Cards.{digitsAt}
 use borrow.Author.Needs.{needs}
 use Rattle.card.proofs.digits_at.Statement.{statement}

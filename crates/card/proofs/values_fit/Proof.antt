@@ -6,7 +6,7 @@ use lib.IntN.{pos}
 use lib.ListN.{getD}
 use mir.Syntax.{w64}
 use mir.Facts.{toZ-ofZ}
-use Rattle.card.specs.Every.{every, every-none, every-step}
+use Rattle.serial.specs.Every.{every, every-none, every-step}
 use Rattle.card.specs.Fields.{fitsField, valuesFit}
 use borrow.Author.Needs.{needs}
 use Rattle.card.proofs.values_fit.Statement.{statement}

@@ -6,7 +6,7 @@ use native.Mathlib.Omega.{arith}
 use lib.ListN.{length}
 use denote.Ref.{now}
 use borrow.Author.Tests.{not-true, not-false}
-use Rattle.card.specs.Serials.{isSerial}
+use Rattle.serial.specs.Serials.{isSerial}
 use Rattle.card.specs.Fields.{valuesFit}
 use Rattle.change.specs.Change.{addAnswer, added, bufferAfter}
 use Rattle.change.proofs.Answers.{Holds, holds, ready-card}

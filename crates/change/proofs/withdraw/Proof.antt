@@ -5,7 +5,7 @@ use native.Mathlib.Nat.{sub-zero}
 use native.Mathlib.Omega.{arith}
 use denote.Ref.{now}
 use borrow.Author.Tests.{not-true, not-false}
-use Rattle.card.specs.Serials.{isSerial}
+use Rattle.serial.specs.Serials.{isSerial}
 use Rattle.change.specs.Change.{withdrawAnswer, afterWithdraw, bufferAfter}
 use Rattle.change.proofs.Answers.{Holds, holds, ready-serial}
 use borrow.Author.Needs.{needs}

@@ -5,7 +5,7 @@ use mathlib.Core.List.{List, [], _∷_, _++_}
 use native.Mathlib.Omega.{arith}
 use lib.ListN.{length, length-append}
 use denote.Ref.{now}
-use Rattle.card.specs.Places.{put}
+use Rattle.serial.specs.Places.{put}
 use Rattle.book.specs.Book.{cards, withdrawn}
 use Rattle.section.specs.declared.Section.{Section}
 use Rattle.listing.specs.Numbers.{decimal}

@@ -5,7 +5,7 @@ use mathlib.Core.List.{[], _∷_, _++_}
 use native.Mathlib.Omega.{arith}
 use lib.ListN.{length, length-append}
 use denote.Ref.{now}
-use Rattle.card.specs.Serials.{textOf}
+use Rattle.serial.specs.Serials.{textOf}
 use Rattle.card.specs.Cards.{fieldsAt}
 use Rattle.card.specs.declared.Card.{Card}
 use Rattle.listing.specs.Lines.{fieldsText, cardText}

@@ -4,7 +4,7 @@ use mathlib.Core.List.{[], _∷_, _++_}
 use native.Mathlib.Omega.{arith}
 use lib.ListN.{length, length-append}
 use denote.Ref.{now}
-use Rattle.card.specs.Serials.{textOf}
+use Rattle.serial.specs.Serials.{textOf}
 use Rattle.listing.specs.Lines.{serialText}
 use Rattle.listing.proofs.Lines.{made-first, made-more, made-whole, text-short}
 use borrow.Author.Needs.{needs}

@@ -1,6 +1,6 @@
 -- `listing::text_of` meets its contract.
-use Rattle.card.specs.Places.{part}
-use Rattle.card.specs.Serials.{textOf}
+use Rattle.serial.specs.Places.{part}
+use Rattle.serial.specs.Serials.{textOf}
 use borrow.Author.Needs.{needs}
 use Rattle.listing.proofs.text_of.Statement.{statement}
 use Rattle.listing.proofs.text_of.Tie as tie

@@ -3,7 +3,7 @@ use mathlib.Core.Path.{_≡_, sym, ap, _∙_}
 use mathlib.Core.Bool.{true}
 use denote.Ref.{now}
 use borrow.Author.Tests.{not-true, not-false}
-use Rattle.card.specs.Serials.{serialBytes}
+use Rattle.serial.specs.Serials.{serialBytes}
 use Rattle.section.specs.Sections.{lies, firstOf, findIn}
 use Rattle.section.proofs.Sections.{lies-has}
 use borrow.Author.Needs.{needs}

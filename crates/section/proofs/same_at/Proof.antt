@@ -7,8 +7,8 @@ use lib.ListN.{getD}
 use lib.Dec.{eqb}
 use denote.Ref.{now}
 use borrow.Author.Tests.{eq-eqb, ne-eqb}
-use Rattle.card.specs.Every.{every, every-none, every-more, every-fails}
-use Rattle.card.specs.Places.{part, part-at}
+use Rattle.serial.specs.Every.{every, every-none, every-more, every-fails}
+use Rattle.serial.specs.Places.{part, part-at}
 use Rattle.section.specs.Sections.{same}
 use borrow.Author.Needs.{needs}
 use Rattle.section.proofs.same_at.Statement.{statement}
