@@ -1,11 +1,12 @@
 -- `commit` meets its contract.
-use mathlib.Core.Path.{_≡_, sym, _∙_}
+use mathlib.Core.Path.{_≡_, sym, ap, _∙_}
 use mir.Facts.{toZ-ofZ}
 use mathlib.Core.Bool.{true, false}
 use Rattle.steps.specs.Module.{commit}
 use Rattle.port.specs.Desks.{cardOn}
+use Rattle.aberzhan.specs.declared.Module.{Module}
 use Rattle.aberzhan.specs.Module.{commitOf}
-use Rattle.aberzhan.specs.Inside.{isPort, deskAt}
+use Rattle.aberzhan.specs.Inside.{isPort, deskAt, waitPut}
 use Rattle.aberzhan.proofs.Steps.{finished-whole, finished-13, finished-10, refused-8, commits, commit-refused}
 use borrow.Author.Needs.{needs}
 use Rattle.aberzhan.proofs.Module.commit.Statement.{statement}
@@ -48,9 +49,10 @@ returns c =
     let e = the-desk d in
     let card = rw e at (c .before .before .before .card .ensures) in
     let put = rw (toZ-ofZ (start .fits .port), c .before .before .shut .ensures) at (c .before .with-desk .ensures) in
+    let waiting = c .with-waiting .ensures ∙ ap (λ (n : Module). waitPut n (c .before .before .before .card .result)) put in
     let opened = rw e at (c .before .before .before .before .before .before .if2 .taken) in
     let written = rw e at (sym (c .before .before .before .before .before .all-written .ensures) ∙ c .before .before .before .before .if3 .taken) in
-    rw (c .with-waiting .ensures, put, card) (commits m p (port (d .before)) (cardOn (deskAt m p)) (finished-whole (deskAt m p) opened written))
+    rw (waiting, card) (commits m p (port (d .before)) (cardOn (deskAt m p)) (finished-whole (deskAt m p) opened written))
 
 refused-requires : tie.Need-refused-requires
 refused-requires c κs = search needs
