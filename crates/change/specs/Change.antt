@@ -64,6 +64,7 @@ addAnswer b used t f =
     (ask (bookIn b used) 2
     (roomFor (take used b) (cards (take used b)) 1024 t (length b))))
 
+-- what the buffer holds then
 unfoldable pub added : List ℕ → ℕ → List ℕ → List ℤ → List ℕ
 added b used t f = bufferAfter (addAnswer b used t f) b (withEntry (take used b) (cards (take used b)) (cardBytes (serialOf t) f))
 
@@ -74,5 +75,6 @@ withdrawAnswer b used t =
     (ask (bookIn b used) 2
     (roomFor (take used b) (withdrawn (take used b)) 512 t (length b)))
 
+-- what the buffer holds then
 unfoldable pub afterWithdraw : List ℕ → ℕ → List ℕ → List ℕ
 afterWithdraw b used t = bufferAfter (withdrawAnswer b used t) b (withEntry (take used b) (withdrawn (take used b)) (serialBytes (serialOf t)))
