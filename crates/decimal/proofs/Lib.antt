@@ -1,0 +1,5 @@
+-- Laws and worked examples of numbers in decimal.
+pub mod Digits
+pub mod Places
+pub mod Examples
+pub mod Decided
