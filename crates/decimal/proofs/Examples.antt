@@ -1,9 +1,7 @@
 -- Numbers worked out by the definition.
 use mathlib.Core.Path.{_≡_, refl}
-use mathlib.Core.List.{List, [], _∷_}
+use mathlib.Core.List.{[], _∷_}
 use lib.IntN.{pos, negsuc}
-use lib.ListN.{replicate}
-use Rattle.decimal.specs.declared.Text.{Text}
 use Rattle.decimal.specs.Decimals.{digits, decimal, signedDecimal, atEnd, numberText}
 
 -- 0

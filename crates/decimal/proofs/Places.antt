@@ -1,5 +1,5 @@
 -- Laws of a text at the end of its twenty bytes, and of the loop that writes the last digit first.
-use Prim.Native.Nat.{ℕ, zero, suc, _+_, _-_, _/_, _%_, _≤_, _<_}
+use Prim.Native.Nat.{ℕ, suc, _+_, _-_, _/_, _%_, _≤_, _<_}
 use mathlib.Core.Path.{_≡_, refl, sym, ap, _∙_}
 use mathlib.Core.Bool.{true, false, true≢false}
 use mathlib.Core.List.{List, [], _∷_, _++_, append-assoc, append-nil}
@@ -10,7 +10,7 @@ use lib.Seq.{set-at}
 use lib.Signed.{ltZ}
 use borrow.Author.Tests.{le-ltb}
 use Rattle.decimal.specs.declared.Text.{Text}
-use Rattle.decimal.specs.Decimals.{decimal, signedDecimal, atEnd, numberText}
+use Rattle.decimal.specs.Decimals.{decimal, signedDecimal, atEnd}
 use Rattle.decimal.proofs.Digits.{one-digit, last-digit, some}
 
 -- the last of some zero bytes, stored
