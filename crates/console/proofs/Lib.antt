@@ -4,3 +4,4 @@ pub mod NumberLaws
 pub mod ItemLaws
 pub mod WordLaws
 pub mod TurnLaws
+pub mod LineLaws
