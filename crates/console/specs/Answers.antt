@@ -1,10 +1,10 @@
 -- The line that answers a turn, from reference/CONSOLE.md, "Answers". One space, 32, parts its items; a line feed, 10, ends it.
-use Prim.Native.Nat.{ℕ}
+use Prim.Native.Nat.{ℕ, _+_}
 use mathlib.Core.Bool.{cond}
 use mathlib.Core.List.{List, [], _∷_, _++_}
 use lib.Dec.{leb}
 use lib.IntN.{ℤ, pos}
-use lib.ListN.{take}
+use lib.ListN.{length, take}
 use Rattle.decimal.specs.Decimals.{decimal, signedDecimal}
 use Rattle.card.specs.declared.Serial.{Serial}
 use Rattle.console.specs.declared.turns.Said.{Said}
@@ -50,3 +50,8 @@ saidText said.Held number serial = heldLine number serial
 -- the whole line of a turn
 unfoldable pub answerText : Turn → List ℕ
 answerText t = saidText (t .said) (t .number) (t .serial)
+
+-- a line put behind what is gathered of the lines before it, in a buffer with so much room; where that is too little, those are
+-- written out, and it is the first of the next
+unfoldable pub gathered : ℕ → List ℕ → List ℕ → List ℕ
+gathered room lines line = cond (leb (length lines + length line) room) (lines ++ line) line
