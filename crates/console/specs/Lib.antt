@@ -4,4 +4,5 @@ pub mod Numbers
 pub mod Items
 pub mod Words
 pub mod Turns
+pub mod Answers
 pub mod Session

@@ -1,6 +1,6 @@
 // Standard input, taken apart into lines. A line may come in several reads, so its bytes are kept until its end.
 ghost use mathlib.Core.Path.{_≡_};
-ghost use Prim.Native.Nat.{_≤_, _<_};
+ghost use Prim.Native.Nat.{_≤_};
 ghost use lib.ListN.{length};
 ghost use Rattle.console.specs.Session.{Ready};
 use super::output::put_answer;
@@ -156,7 +156,7 @@ fn read_some(
 
 // Reads to the end of the input. Nothing says that there is one, so the turns are counted down, from a number that no run uses up.
 pub(super) fn run(chunk: &mut [u8], line: &mut [u8], v: &mut [i32], i: &mut [i32], out: &mut [u8])
-    requires { ⌜ 0 < length (now out) ⌝ }
+    requires { ⌜ 64 ≤ length (now out) ⌝ }
 {
     let mut s = begun();
     let mut turns = u64::MAX;

@@ -1,4 +1,5 @@
 // The console: a step a line on standard input, an answer a line on standard output.
+mod answers;
 mod input;
 mod items;
 mod numerals;

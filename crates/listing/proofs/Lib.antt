@@ -1,5 +1,4 @@
 -- Laws and worked examples of the listing.
-pub mod Numbers
 pub mod Lines
 pub mod Walked
 pub mod Examples

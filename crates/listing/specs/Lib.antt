@@ -1,3 +1,2 @@
 -- The listing of a card book, from document 01, "The listing".
-pub mod Numbers
 pub mod Lines

@@ -11,7 +11,7 @@ use Rattle.card.specs.Cards.{fieldsAt}
 use Rattle.section.specs.Sections.{entryAt}
 use Rattle.book.specs.Book.{cards, withdrawn, wellFormed}
 use Rattle.reader.specs.Walk.{stepAt, placeAfter}
-use Rattle.listing.specs.Numbers.{decimal, signedDecimal}
+use Rattle.decimal.specs.Decimals.{decimal, signedDecimal}
 
 -- REFUSED 2
 unfoldable pub refusedLine : List ℕ

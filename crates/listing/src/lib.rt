@@ -1,52 +1,11 @@
 // The lines of the listing, each made whole in a lent buffer.
 ghost use mathlib.Core.Path.{_≡_};
-ghost use Prim.Native.Nat.{_+_, _≤_, _<_};
-ghost use lib.IntN.{natAbs};
-ghost use lib.ListN.{length, drop};
+ghost use Prim.Native.Nat.{_+_, _≤_};
+ghost use lib.ListN.{length};
 ghost use Rattle.serial.specs.Places.{part, put};
-ghost use Rattle.listing.specs.Numbers.{decimal, signedDecimal};
+ghost use Rattle.decimal.specs.Decimals.{signedDecimal};
 ghost use Rattle.serial.specs.Serials.{textOf};
 ghost use Rattle.listing.specs.Lines.{fieldsText, cardText, serialText, refusedLine, firstLine, entryLine};
-
-// A number as text: the bytes from a place on.
-pub struct Text {
-    pub bytes: [u8; 12],
-    pub from: usize,
-}
-
-// The digits of a number below 10,000,000,000.
-fn digits_of(n: u64) -> Text
-    requires { ⌜ n < 10000000000 ⌝ }
-    ensures { λ r. ⌜ (drop (r .from) (r .bytes) ≡ decimal n) × (1 ≤ r .from) × (r .from ≤ 12) ⌝ }
-{
-    let mut bytes = [0u8; 12];
-    let mut i = 12;
-    let mut rest = n;
-    while 10 <= rest {
-        i -= 1;
-        bytes[i] = (48 + rest % 10) as u8;
-        rest = rest / 10;
-    }
-    i -= 1;
-    bytes[i] = (48 + rest % 10) as u8;
-    Text {
-        bytes: bytes,
-        from: i,
-    }
-}
-
-fn number_text(v: i64) -> Text
-    requires { ⌜ natAbs v < 10000000000 ⌝ }
-    ensures { λ r. ⌜ (drop (r .from) (r .bytes) ≡ signedDecimal v) × (r .from ≤ 12) ⌝ }
-{
-    let mut t = digits_of(number::size(v));
-    if v < 0 {
-        let from = t.from - 1;
-        t.bytes[from] = 45;
-        t.from = from;
-    }
-    t
-}
 
 // Puts a text at a place of the line, and gives the place after it.
 fn put_text(line: &mut [u8; 160], at: usize, text: &[u8]) -> usize
@@ -59,10 +18,10 @@ fn put_text(line: &mut [u8; 160], at: usize, text: &[u8]) -> usize
 
 // Puts a number at a place of the line, and gives the place after it.
 fn put_number(line: &mut [u8; 160], at: usize, v: i64) -> usize
-    requires { ⌜ (at + 12 ≤ 160) × (natAbs v < 10000000000) ⌝ }
+    requires { ⌜ at + length (signedDecimal v) ≤ 160 ⌝ }
     ensures { λ r. ⌜ (r ≡ at + length (signedDecimal v)) × (now (line .exit) ≡ put (now (line .entry)) at (signedDecimal v)) × (length (now (line .entry)) ≡ 160) ⌝ }
 {
-    let t = number_text(v);
+    let t = decimal::number_text(v);
     let bytes = t.bytes;
     let from = t.from;
     put_text(line, at, &bytes[from..])
@@ -94,7 +53,7 @@ fn text_of(e: &[u8]) -> &[u8]
 // Puts the fields in decimal, a space before each.
 fn put_fields(line: &mut [u8; 160], from: usize, fields: [i32; 8]) -> usize
     requires { ⌜ from + 97 ≤ 160 ⌝ }
-    ensures { λ r. ⌜ (r ≡ from + length (fieldsText fields)) × (now (line .exit) ≡ put (now (line .entry)) from (fieldsText fields)) ⌝ }
+    ensures { λ r. ⌜ (r ≡ from + length (fieldsText fields)) × (now (line .exit) ≡ put (now (line .entry)) from (fieldsText fields)) × (r ≤ from + 96) ⌝ }
 {
     let mut at = from;
     let mut i = 0;

@@ -1,5 +1,5 @@
 -- `listing::first_line` meets its contract.
-use Prim.Native.Nat.{ℕ, _+_}
+use Prim.Native.Nat.{ℕ, _+_, _≤_}
 use mathlib.Core.Path.{_≡_, ap}
 use mathlib.Core.List.{List, [], _∷_, _++_}
 use native.Mathlib.Omega.{arith}
@@ -8,10 +8,9 @@ use denote.Ref.{now}
 use Rattle.serial.specs.Places.{put}
 use Rattle.book.specs.Book.{cards, withdrawn}
 use Rattle.section.specs.declared.Section.{Section}
-use Rattle.listing.specs.Numbers.{decimal}
+use Rattle.decimal.specs.Decimals.{decimal}
 use Rattle.listing.specs.Lines.{cardsWord, withdrawnWord, firstLine}
-use Rattle.listing.proofs.Numbers.{digits-length}
-use Rattle.listing.proofs.Lines.{made-first, made-more, made-whole, count-text, count-small}
+use Rattle.listing.proofs.Lines.{made-first, made-more, made-whole, count-text, count-short}
 use borrow.Author.Needs.{needs}
 use Rattle.listing.proofs.first_line.Statement.{statement}
 use Rattle.listing.proofs.first_line.Tie as tie
@@ -34,6 +33,15 @@ cast-put-number c = search needs
 book : (c : tie.After-withdrawn) → List ℕ
 book c = now (c .before .before .before .args .book)
 
+-- a count is below 65,536
+cards-short : (c : tie.After-withdrawn) → length (decimal (cards (book c) .count)) ≤ 5
+unfolding book
+cards-short c = let n = c .before .cards in rw (← ap (λ (s : Section). s .count) (n .ensures .0)) (count-short _ (n .ensures .1))
+
+withdrawn-short : (c : tie.After-withdrawn) → length (decimal (withdrawn (book c) .count)) ≤ 5
+unfolding book
+withdrawn-short c = let n = c .withdrawn in rw (← ap (λ (s : Section). s .count) (n .ensures .0)) (count-short _ (n .ensures .1))
+
 -- the two numbers as they stand in the line
 first-number : (c : tie.After-put-number)
     → (c .put-number .result ≡ c .before .before .put-text .result + length (decimal (cards (book (c .before .before .before .before .before)) .count)))
@@ -54,13 +62,15 @@ second-number c =
     (e .0, e .1)
 
 put-number-requires : tie.Need-put-number-requires
-put-number-requires c κs = (omega (arith, c .before .put-text .ensures .0), count-small _ (c .before .before .before .before .before .cards .ensures .1))
+put-number-requires c κs =
+    let n = c .before .before .before .before .before .cards in
+    rw (count-text (n .result .count) (n .ensures .1)) (omega (arith, c .before .put-text .ensures .0, count-short (n .result .count) (n .ensures .1)))
 
 slice-aggregate-put-text-2 : tie.Need-slice-aggregate-put-text-2
 slice-aggregate-put-text-2 c = search needs
 
 put-text-requires-2 : tie.Need-put-text-requires-2
-put-text-requires-2 c κs = omega (arith, first-number (c .before .before) .0, c .before .before .before .before .put-text .ensures .0, digits-length 10 (cards (book (c .before .before .before .before .before .before .before)) .count))
+put-text-requires-2 c κs = omega (arith, first-number (c .before .before) .0, c .before .before .before .before .put-text .ensures .0, cards-short (c .before .before .before .before .before .before .before))
 
 cast-put-number-2 : tie.Need-cast-put-number-2
 cast-put-number-2 c = search needs
@@ -68,7 +78,9 @@ cast-put-number-2 c = search needs
 put-number-requires-2 : tie.Need-put-number-requires-2
 put-number-requires-2 c κs =
     let n = c .before .before .before .before in
-    (omega (arith, c .before .put-text2 .ensures .0, first-number n .0, n .before .before .put-text .ensures .0, digits-length 10 (cards (book (n .before .before .before .before .before)) .count)), count-small _ (n .before .before .before .before .before .withdrawn .ensures .1))
+    let w = n .before .before .before .before .before .withdrawn in
+    rw (count-text (w .result .count) (w .ensures .1))
+    (omega (arith, c .before .put-text2 .ensures .0, first-number n .0, n .before .before .put-text .ensures .0, cards-short (n .before .before .before .before .before), count-short (w .result .count) (w .ensures .1)))
 
 slice-aggregate-put-text-3 : tie.Need-slice-aggregate-put-text-3
 slice-aggregate-put-text-3 c = search needs
@@ -77,7 +89,7 @@ put-text-requires-3 : tie.Need-put-text-requires-3
 put-text-requires-3 c κs =
     let m = c .before .before in
     let n = m .before .before .before .before .before in
-    omega (arith, second-number m .0, m .before .before .put-text2 .ensures .0, first-number n .0, n .before .before .put-text .ensures .0, digits-length 10 (cards (book (n .before .before .before .before .before)) .count), digits-length 10 (withdrawn (book (n .before .before .before .before .before)) .count))
+    omega (arith, second-number m .0, m .before .before .put-text2 .ensures .0, first-number n .0, n .before .before .put-text .ensures .0, cards-short (n .before .before .before .before .before), withdrawn-short (n .before .before .before .before .before))
 
 returns : tie.Need-returns
 unfolding firstLine cardsWord withdrawnWord book
@@ -90,8 +102,8 @@ returns c =
     let b = book (a .before .before .before) in
     let x = decimal (cards b .count) in
     let y = decimal (withdrawn b .count) in
-    let p = digits-length 10 (cards b .count) in
-    let q = digits-length 10 (withdrawn b .count) in
+    let p = cards-short (a .before .before .before) in
+    let q = withdrawn-short (a .before .before .before) in
     let e = a .put-text .ensures in
     let f = w .put-text2 .ensures in
     let g = c .put-text3 .ensures in

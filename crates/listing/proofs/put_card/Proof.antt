@@ -9,7 +9,7 @@ use Rattle.serial.specs.Serials.{textOf}
 use Rattle.card.specs.Cards.{fieldsAt}
 use Rattle.card.specs.declared.Card.{Card}
 use Rattle.listing.specs.Lines.{fieldsText, cardText}
-use Rattle.listing.proofs.Lines.{made-first, made-more, made-whole, text-short, card-fields-short}
+use Rattle.listing.proofs.Lines.{made-first, made-more, made-whole, text-short}
 use borrow.Author.Needs.{needs}
 use Rattle.listing.proofs.put_card.Statement.{statement}
 use Rattle.listing.proofs.put_card.Tie as tie
@@ -27,9 +27,6 @@ short c = rw (c .text-of .ensures) (text-short (now (c .before .before .before .
 read : (c : tie.After-of) → c .of .result .fields ≡ fieldsAt (now (c .before .before .args .c))
 read c = ap (λ (x : Card). x .fields) (c .of .ensures)
 
-fields-short8 : (c : tie.After-put-text) → length (fieldsText (c .before .before .before .before .of .result .fields)) ≤ 96
-fields-short8 c = rw (read (c .before .before .before .before)) (card-fields-short (now (c .before .before .before .before .before .before .args .c)))
-
 put-text-requires : tie.Need-put-text-requires
 put-text-requires c κs = omega (arith, short c)
 
@@ -43,7 +40,7 @@ put-text-requires-2 : tie.Need-put-text-requires-2
 put-text-requires-2 c κs =
     let f = c .before .before in
     let p = f .before .before in
-    omega (arith, f .put-fields .ensures .0, p .put-text .ensures .0, short (p .before), fields-short8 p)
+    omega (arith, f .put-fields .ensures .0, p .put-text .ensures .0, short (p .before), f .put-fields .ensures .2)
 
 returns : tie.Need-returns
 unfolding cardText
@@ -59,11 +56,11 @@ returns c =
     let h = rw (read (t .before .before .before)) at (f .put-fields .ensures) in
     let g = c .put-text2 .ensures in
     let n = text-short (now (s .args .c)) 37 (s .pre) in
-    let m = card-fields-short (now (s .args .c)) in
+    let m = h .2 in
     made-whole l (c .put-text2 .last .0) (c .put-text2 .result) _
     (made-more l (f .put-fields .last .0) (c .put-text2 .last .0) 0 (f .put-fields .result) (c .put-text2 .result) (text ++ fields) (10 ∷ [])
     (made-more l (p .put-text .last .0) (f .put-fields .last .0) 0 (p .put-text .result) (f .put-fields .result) text fields
-    (made-first l (p .put-text .last .0) 0 (p .put-text .result) text (e .0, e .1)) h (omega (arith, e .2)))
+    (made-first l (p .put-text .last .0) 0 (p .put-text .result) text (e .0, e .1)) (h .0, h .1) (omega (arith, e .2)))
     (g .0, g .1) (omega (arith, e .2, length-append text fields)))
 
 pub put-card-spec : {M : Type 1} → statement M

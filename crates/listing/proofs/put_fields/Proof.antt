@@ -1,5 +1,5 @@
 -- `listing::put_fields` meets its contract: the fields passed stand in the line.
-use Prim.Native.Nat.{_+_, _-_, _≤_}
+use Prim.Native.Nat.{_+_, _*_, _-_, _≤_}
 use mathlib.Core.Path.{_≡_, refl}
 use mathlib.Core.List.{[], _∷_}
 use native.Mathlib.Omega.{arith}
@@ -12,21 +12,23 @@ use denote.Ref.{now}
 use lib.Seq.{take-all}
 use Rattle.number.proofs.Signed.{abs-is}
 use Rattle.number.proofs.Fits.{range, widen}
+use Rattle.decimal.specs.Decimals.{signedDecimal}
+use Rattle.decimal.proofs.Digits.{limit, signed-at-most}
 use Rattle.listing.specs.Lines.{fieldsText}
-use Rattle.listing.proofs.Lines.{Made, made-none, made-in, fields-turn, fields-room}
+use Rattle.listing.proofs.Lines.{Made, made-none, made-in, fields-turn}
 use borrow.Author.Needs.{needs}
 use Rattle.listing.proofs.put_fields.Statement.{statement}
 use Rattle.listing.proofs.put_fields.Tie as tie
 
 abbrev Inv-loop : tie.InvT-loop
-Inv-loop line₀ from fields at₀ i₀ t9 line at i = (i ≤ 8) × (from + 97 ≤ 160) × (t9 ≡ 32 ∷ []) × (Made line₀ line from at (fieldsText (take i fields)))
+Inv-loop line₀ from fields at₀ i₀ t9 line at i = (i ≤ 8) × (from + 97 ≤ 160) × (t9 ≡ 32 ∷ []) × (Made line₀ line from at (fieldsText (take i fields))) × (at ≤ from + 12 * i)
 
 abbrev μ-loop : tie.MeasureT-loop
 μ-loop line₀ from fields at₀ i₀ t9 line at i = 8 - i
 
 loop-holds : tie.Need-loop-holds Inv-loop μ-loop
 unfolding fieldsText
-loop-holds c = (omega arith, c .pre, refl, made-none _ _)
+loop-holds c = (omega arith, c .pre, refl, made-none _ _, omega arith)
 
 mul-v : tie.Need-mul-v Inv-loop μ-loop
 mul-v c = search needs
@@ -44,10 +46,15 @@ small : (c : tie.After-v Inv-loop μ-loop) → SFits w32 (value c)
 unfolding value
 small c = record { sfits = c .v .given }
 
+-- no i32 has more than eleven bytes
+short : (c : tie.After-v Inv-loop μ-loop) → length (signedDecimal (value c)) ≤ 11
+unfolding limit
+short c = signed-at-most 9 (value c) (omega (arith, abs-is (value c), range (small c)))
+
 put-text-requires : tie.Need-put-text-requires Inv-loop μ-loop
 put-text-requires c κs =
     let d = c .before .before .before .before in
-    omega (arith, fields-room _ _ _ _ _ (d .loop .i) (d .loop .inv .3))
+    omega (arith, d .loop .inv .4)
 
 cast-put-number : tie.Need-cast-put-number Inv-loop μ-loop
 unfolding value
@@ -60,7 +67,7 @@ put-number-requires c κs =
     let d = v .before .before in
     let s = small v in
     rw (toZ-ofZ s, toZ-ofZ (widen s))
-    (omega (arith, c .before .put-text .ensures .0, fields-room _ _ _ _ _ (d .loop .i) (d .loop .inv .3)), omega (arith, abs-is (value v), range s))
+    (omega (arith, c .before .put-text .ensures .0, d .loop .inv .4, short v))
 
 add-i : tie.Need-add-i Inv-loop μ-loop
 add-i c = search needs
@@ -78,12 +85,13 @@ loop-again c =
     let s = small v in
     let e = t .put-text .ensures in
     let q = rw (toZ-ofZ s, toZ-ofZ (widen s)) at (c .put-number .ensures) in
-    let whole : length (now (a .line)) ≡ 160 = made-in _ _ _ _ _ (d .loop .inv .3) (e .2) (omega (arith, fields-room _ _ _ _ _ (d .loop .i) (d .loop .inv .3), d .loop .inv .1)) in (
+    let whole : length (now (a .line)) ≡ 160 = made-in _ _ _ _ _ (d .loop .inv .3) (e .2) (omega (arith, d .loop .inv .4, d .loop .inv .1)) in (
       omega arith,
       d .loop .inv .1,
       refl,
       fields-turn (now (a .line)) (d .loop .line) (t .put-text .last .0) (c .put-number .last .0) (a .from) (d .loop .at) (t .put-text .result) (c .put-number .result) (a .t3) (d .loop .i)
-          (search needs) (v .before .loop-test .taken) (omega (arith, whole, d .loop .inv .1)) (d .loop .inv .3) (e .0, e .1) (q .0, q .1),
+          (search needs) (omega (arith, whole, d .loop .inv .1, d .loop .inv .4)) (short v) (d .loop .inv .3) (e .0, e .1) (q .0, q .1),
+      omega (arith, d .loop .inv .4, e .0, q .0, short v),
     )
 
 returns : tie.Need-returns Inv-loop μ-loop
@@ -92,7 +100,7 @@ returns c =
     let e : c .before .loop .i ≡ 8 = omega arith in
     let eight : length (a .t3) ≡ 8 = search needs in
     let m = rw (e, take-all 8 (a .t3) (omega arith)) at (c .before .loop .inv .3) in
-    (m .place, m .line)
+    (m .place, m .line, omega (arith, c .before .loop .inv .4))
 
 pub put-fields-spec : {M : Type 1} → statement M
 put-fields-spec =

@@ -1,11 +1,12 @@
 -- `listing::put_number` meets its contract.
-use Prim.Native.Nat.{_-_}
-use mathlib.Core.Path.{_≡_, _∙_}
+use Prim.Native.Nat.{_-_, _≤_}
+use mathlib.Core.Path.{_≡_, ap, _∙_}
 use native.Mathlib.Omega.{arith}
-use lib.ListN.{length, take, drop, length-drop}
-use lib.Seq.{take-all}
+use lib.ListN.{length, take, drop}
 use mir.Facts.{toZ-ofZ}
-use Rattle.listing.specs.Numbers.{signedDecimal}
+use Rattle.decimal.specs.declared.Text.{Text}
+use Rattle.decimal.specs.Decimals.{signedDecimal, numberText}
+use Rattle.decimal.proofs.Shown.{place-within, shown}
 use borrow.Author.Needs.{needs}
 use Rattle.listing.proofs.put_number.Statement.{statement}
 use Rattle.listing.proofs.put_number.Tie as tie
@@ -13,26 +14,29 @@ use Rattle.listing.proofs.put_number.Tie as tie
 number-text-requires : tie.Need-number-text-requires
 number-text-requires c κs = search needs
 
-sub-put-text : tie.Need-sub-put-text
-sub-put-text c = search needs
+made : (c : tie.After-number-text) → c .number-text .result ≡ numberText (c .before .args .v)
+made c = rw (toZ-ofZ (c .before .fits .v)) at (c .number-text .ensures)
 
-part-put-text-start : tie.Need-part-put-text-start
-part-put-text-start c = search needs
+within : (c : tie.After-number-text) → c .number-text .result .from ≤ 20
+within c = rw (made c) (place-within (c .before .args .v))
 
-whole : (c : tie.After-number-text) → length (c .number-text .result .bytes) ≡ 12
+whole : (c : tie.After-number-text) → length (c .number-text .result .bytes) ≡ 20
 whole c = search needs
 
+sub-put-text : tie.Need-sub-put-text
+sub-put-text c = within (c .before .before)
+
+part-put-text-start : tie.Need-part-put-text-start
+part-put-text-start c = omega (arith, within (c .before .before .before))
+
 part-put-text-end : tie.Need-part-put-text-end
-part-put-text-end c = omega (arith, whole (c .before .before .before))
+part-put-text-end c = omega (arith, whole (c .before .before .before), within (c .before .before .before))
+
+text : (c : tie.After-number-text) → take (20 - c .number-text .result .from) (drop (c .number-text .result .from) (c .number-text .result .bytes)) ≡ signedDecimal (c .before .args .v)
+text c = ap (λ (t : Text). take (20 - t .from) (drop (t .from) (t .bytes))) (made c) ∙ shown (c .before .fits .v)
 
 put-text-requires : tie.Need-put-text-requires
-put-text-requires c κs = search needs
-
-text : (c : tie.After-number-text) → take (12 - c .number-text .result .from) (drop (c .number-text .result .from) (c .number-text .result .bytes)) ≡ signedDecimal (c .before .args .v)
-text c =
-    let t = c .number-text .result in
-    take-all (12 - t .from) (drop (t .from) (t .bytes)) (omega (arith, whole c, length-drop (t .from) (t .bytes)))
-    ∙ (rw (toZ-ofZ (c .before .fits .v)) at (c .number-text .ensures .0))
+put-text-requires c κs = rw (text (c .before .before .before .before)) (c .before .before .before .before .before .pre)
 
 returns : tie.Need-returns
 returns c = rw (text (c .before .before .before .before .before)) at (c .put-text .ensures)

@@ -1,64 +1,69 @@
--- `put` keeps within the buffer, which is written out when it is full.
-use Prim.Native.Nat.{_-_, _≤_, _<_}
-use mathlib.Core.Path.{_≡_, refl}
-use mathlib.Core.Logic.{⊎-elim}
+-- `put` gathers a line, or begins anew with it.
+use mathlib.Core.Path.{sym, _∙_}
 use native.Mathlib.Omega.{arith}
-use lib.ListN.{length, length-set}
+use lib.Seq.{length-take-le}
+use denote.Ref.{now}
+use Rattle.serial.specs.Places.{put-fits, length-put}
+use Rattle.console.proofs.LineLaws.{put-behind, put-anew}
+use borrow.Author.Needs.{needs}
 use Rattle.console.proofs.output.put.Statement.{statement}
 use Rattle.console.proofs.output.put.Tie as tie
 
-abbrev Inv-loop : tie.InvT-loop
-Inv-loop out₀ used text at₀ k₀ out at k = (at ≤ length out) × (length out ≡ length out₀)
+sub-if1 : tie.Need-sub-if1
+sub-if1 c = search needs
 
-abbrev μ-loop : tie.MeasureT-loop
-μ-loop out₀ used text at₀ k₀ out at k = length text - k
+slice-reshare-prefix-write-all : tie.Need-slice-reshare-prefix-write-all
+slice-reshare-prefix-write-all c = search needs
 
-loop-holds : tie.Need-loop-holds Inv-loop μ-loop
-loop-holds c = (omega arith, refl)
+slice-aggregate-write-all : tie.Need-slice-aggregate-write-all
+slice-aggregate-write-all c = sym (length-take-le _ _ (c .before .before .before .before .pre .1))
 
-write-all-requires : tie.Need-write-all-requires Inv-loop μ-loop
-write-all-requires c κs = tt
+write-all-requires : tie.Need-write-all-requires
+write-all-requires c κs = search needs
 
-shared-slice-read-out : tie.Need-shared-slice-read-out Inv-loop μ-loop
-shared-slice-read-out c = omega arith
+put-at-requires : tie.Need-put-at-requires
+put-at-requires c κs = search needs
 
-room : (c : tie.Joined1 Inv-loop μ-loop) → c .if1 .at < length (c .before .before .loop .out)
-room c = ⊎-elim (λ w. omega (arith, c .before .before .before .before .before .pre)) (λ w. omega arith) (c .if1 .came)
+same-length : tie.Need-same-length
+same-length c = search needs
 
-slice-write-out : tie.Need-slice-write-out Inv-loop μ-loop
-slice-write-out c = room (c .before)
+returns : tie.Need-returns
+returns c =
+    let s = c .before .before .before .before .before .before .before .before .before in
+    let b = now (s .args .out) in
+    let line = now (s .args .line) in
+    let e = c .before .before .put-at .ensures ∙ put-fits b line 0 (omega (arith, s .pre)) in
+    rw e (put-anew b line (s .args .used) (s .pre .1) (s .pre .0) (omega (arith, s .pre)), omega (arith, s .pre, length-put b line 0 (omega (arith, s .pre))))
 
-add-at : tie.Need-add-at Inv-loop μ-loop
-add-at c = omega (arith, room (c .before .before), c .before .before .before .before .before .before .before .good)
+put-at-requires-2 : tie.Need-put-at-requires-2
+put-at-requires-2 c κs = search needs
 
-add-k : tie.Need-add-k Inv-loop μ-loop
-add-k c = omega (arith, c .before .before .before .before .before .before .before .good)
+add-result : tie.Need-add-result
+add-result c = search needs
 
-loop-less : tie.Need-loop-less Inv-loop μ-loop
-loop-less c = omega arith
+same-length-2 : tie.Need-same-length-2
+same-length-2 c = search needs
 
-loop-again : tie.Need-loop-again Inv-loop μ-loop
-loop-again c = (simp length-set (omega (arith, room (c .before .before))), simp length-set (c .before .before .before .before .loop .inv .1))
-
-same-length : tie.Need-same-length Inv-loop μ-loop
-same-length c = c .before .loop .inv .1
-
-returns : tie.Need-returns Inv-loop μ-loop
-returns c = c .before .loop .inv .0
+returns-2 : tie.Need-returns-2
+returns-2 c =
+    let s = c .before .before .before .before .before .before .before in
+    let b = now (s .args .out) in
+    let line = now (s .args .line) in
+    let e = c .before .before .put-at2 .ensures ∙ put-fits b line (s .args .used) (omega (arith, s .pre)) in
+    rw e (put-behind b line (s .args .used) (omega (arith, s .pre)), omega (arith, s .pre, length-put b line (s .args .used) (omega (arith, s .pre))))
 
 pub put-spec : {M : Type 1} → statement M
 put-spec =
     tie.close
     (tie.spec
-    Inv-loop
-    μ-loop
-    loop-holds
+    sub-if1
+    slice-reshare-prefix-write-all
+    slice-aggregate-write-all
     write-all-requires
-    shared-slice-read-out
-    slice-write-out
-    add-at
-    add-k
-    loop-less
-    loop-again
+    put-at-requires
     same-length
-    returns)
+    returns
+    put-at-requires-2
+    add-result
+    same-length-2
+    returns-2)

@@ -1,0 +1,2 @@
+-- Whole numbers in decimal, as bytes of text.
+pub mod Decimals
