@@ -5,4 +5,5 @@ pub mod ItemLaws
 pub mod WordLaws
 pub mod TurnLaws
 pub mod LineLaws
+pub mod SessionLaws
 pub mod Examples

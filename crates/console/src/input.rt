@@ -2,7 +2,7 @@
 ghost use mathlib.Core.Path.{_≡_};
 ghost use Prim.Native.Nat.{_≤_};
 ghost use lib.ListN.{length};
-ghost use Rattle.console.specs.Session.{Ready};
+ghost use Rattle.console.specs.Session.{Ready, Answered};
 use super::output::put_answer;
 use super::texts::length_to;
 use super::turns::take_line;
@@ -59,7 +59,7 @@ fn keep(line: &mut [u8], kept: usize, part: &[u8]) -> usize
 // At a line's end: an empty line and a comment have no answer.
 fn end_line(s: Session, line: &[u8], v: &mut [i32], i: &mut [i32], out: &mut [u8]) -> Session
     requires { ⌜ Ready s (now line) (now out) ⌝ }
-    ensures { λ r. ⌜ Ready r (now (line .entry)) (now (out .exit)) ⌝ }
+    ensures { λ r. ⌜ Ready r (now (line .entry)) (now (out .exit)) × Answered (length (now (v .entry))) (length (now (i .entry))) s r (now (line .entry)) (now (out .entry)) (now (out .exit)) ⌝ }
 {
     let kept = s.kept;
     let used = s.used;

@@ -67,7 +67,7 @@ loop-again : tie.Need-loop-again Inv-loop μ-loop
 loop-again c =
     let k = c .before .before .before .before .end-line .kept in
     let i = c .before .before .before .before .before .before .before .before .before .before .before .before .before .before .before .before .before .before .loop .inv in
-    (c .before .before .before .before .end-line .ensures, omega arith, c .before .before .before .before .before .before .before .before .before .before .before .before .keep .kept .0 ∙ i .2, k .1 .1 .0 ∙ i .3, k .1 .1 .1 .0 ∙ i .4, k .1 .1 .1 .1 .0 ∙ i .5)
+    (c .before .before .before .before .end-line .ensures .0, omega arith, c .before .before .before .before .before .before .before .before .before .before .before .before .keep .kept .0 ∙ i .2, k .1 .1 .0 ∙ i .3, k .1 .1 .1 .0 ∙ i .4, k .1 .1 .1 .1 .0 ∙ i .5)
 
 loop-less-2 : tie.Need-loop-less-2 Inv-loop μ-loop
 loop-less-2 c = omega arith
