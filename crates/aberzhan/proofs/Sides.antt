@@ -7,7 +7,7 @@ use native.Mathlib.Omega.{arith}
 use lib.IntN.{ℤ, pos, negsuc}
 use lib.Dec.{leb}
 use borrow.Author.Tests.{leb-true}
-use Rattle.serial.specs.Every.{and-right}
+use Rattle.serial.proofs.Every.{and-right}
 use Rattle.aberzhan.specs.Ports.{portAt}
 use Rattle.aberzhan.specs.Inside.{isPort, sideOf}
 

@@ -15,7 +15,7 @@ use Rattle.steps.specs.Calls.{Sound}
 use Rattle.steps.proofs.Outcomes.{refused-never, accepted-is}
 use Rattle.serial.specs.declared.Serial.{Serial}
 use Rattle.card.specs.declared.Card.{Card}
-use Rattle.serial.specs.Every.{and-right}
+use Rattle.serial.proofs.Every.{and-right}
 use Rattle.serial.specs.Serials.{isSerial, serialOf}
 use Rattle.card.specs.Fields.{lows, highs, isField, fitsField, fieldInRange}
 use Rattle.address.specs.declared.WordAddr.{WordAddr}

@@ -1,5 +1,5 @@
--- What holds of every module that a start and steps make, so that no sum can overflow. For any other value of the struct a block is
--- refused with 18, and the value stays as it came.
+-- What holds of every module that a start and steps make, so that no sum can overflow. A value of the struct whose sums could overflow
+-- counts in a block as one without a card: 18, after 5 and 6, and it stays as it came.
 use mathlib.Core.Path.{_≡_}
 use mathlib.Core.Bool.{_||_, cond}
 use mathlib.Core.List.{List}

@@ -37,7 +37,7 @@ placeOf w = position (w .0) trackable
 
 -- where a byte address stands in the table, or 21
 unfoldable pub registerOf : ByteAddr → ℕ
-registerOf a = position (a .0) (map (λ (w : ℕ). 3 * w) words)
+registerOf a = position (a .0) (map (λ (w : ℕ). byteOf (record { 0 = w }) .0) words)
 
 -- a number as an address; one that no address can be stands for the greatest, which no register has
 unfoldable pub wordAddr : ℤ → WordAddr

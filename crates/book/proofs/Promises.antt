@@ -8,8 +8,10 @@ use lib.ListN.{length, getD, take, length-take}
 use lib.Seq.{take-take, getD-take}
 use lib.Dec.{leb, eqb}
 use borrow.Author.Tests.{lt-ltb, leb-true}
-use Rattle.serial.specs.Every.{every, every-at, every-same, first-passes, first-at, and-left, and-right}
-use Rattle.serial.specs.Places.{part, length-part}
+use Rattle.serial.specs.Every.{every}
+use Rattle.serial.proofs.Every.{every-at, every-same, first-passes, first-at, and-left, and-right}
+use Rattle.serial.specs.Places.{part}
+use Rattle.serial.proofs.Places.{length-part}
 use Rattle.serial.specs.Serials.{isSerial, serialOf, serialBytes, placeOk, holdsSerial, textOf}
 use Rattle.card.specs.Cards.{fieldsOk}
 use Rattle.serial.proofs.Serials.{length-bytes, byte-length, serial-short, text-back, text-serial, bytes-back}

@@ -7,7 +7,7 @@ use native.Mathlib.Omega.{arith}
 use lib.ListN.{length}
 use lib.Dec.{leb, eqb}
 use borrow.Author.Tests.{leb-true, eqb-true}
-use Rattle.serial.specs.Every.{and-left, and-right}
+use Rattle.serial.proofs.Every.{and-left, and-right}
 use Rattle.section.specs.Sections.{endOf, Lies, sectionOk}
 use Rattle.book.specs.Book.{cards, withdrawn, sized, Sized, wellFormed}
 

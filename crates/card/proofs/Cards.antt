@@ -12,7 +12,8 @@ use lib.ListN.{length, getD, take}
 use borrow.Author.Tests.{le-ltb}
 use lib.Seq.{take-all}
 use Rattle.serial.specs.declared.Serial.{Serial}
-use Rattle.serial.specs.Places.{put, front-put}
+use Rattle.serial.specs.Places.{put}
+use Rattle.serial.proofs.Places.{front-put}
 use Rattle.serial.specs.Serials.{serialBytes}
 use Rattle.card.specs.Cards.{bits24, threeBytes, fieldsBytes, cardBytes}
 

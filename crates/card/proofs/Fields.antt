@@ -12,7 +12,8 @@ use mir.Val.{SFits}
 use borrow.Author.Tests.{lt-leb, le-leb, ltb-true, ltb-false}
 use Rattle.number.proofs.Signed.{up, dn, norm, signs, diff-is, le-out}
 use Rattle.number.proofs.Fits.{within}
-use Rattle.serial.specs.Every.{every, every-at, and-left, and-right}
+use Rattle.serial.specs.Every.{every}
+use Rattle.serial.proofs.Every.{every-at, and-left, and-right}
 use Rattle.card.specs.Fields.{lows, highs, fitsField, isField, fieldInRange}
 
 -- ---- a test on signed numbers, turned round

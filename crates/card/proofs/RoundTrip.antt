@@ -11,8 +11,8 @@ use lib.ListN.{length, getD, length-append, List·getD-append}
 use lib.Seq.{getD-append-add, ext-getD}
 use lib.Dec.{ltb}
 use borrow.Author.Tests.{ltb-true, ltb-false, lt-ltb, le-ltb, eq-eqb}
-use Rattle.serial.specs.Every.{every-from, both}
-use Rattle.serial.specs.Places.{tab-at, tab-of, tab-same, length-tab}
+use Rattle.serial.proofs.Every.{every-from, both}
+use Rattle.serial.proofs.Places.{tab-at, tab-of, tab-same, length-tab}
 use Rattle.serial.specs.Serials.{isSerial, serialOf, serialBytes}
 use Rattle.card.specs.Fields.{fitsField}
 use Rattle.card.specs.Cards.{bits24, threeBytes, fieldsBytes, cardBytes, threeAt, signed24, valueOf, fieldAt, digitsAt, fieldsAt, cardOf, fieldsOk, isCard}

@@ -12,7 +12,7 @@ use lib.Dec.{leb, ltb, eqb}
 use types.Run.{OneOf}
 use denote.Enum.Declared.{tagOf}
 use borrow.Author.Tests.{not-true, ltb-true, leb-true}
-use Rattle.serial.specs.Every.{and-left, and-right}
+use Rattle.serial.proofs.Every.{and-left, and-right}
 use Rattle.serial.specs.Serials.{isSerial, serialOf, serialBytes}
 use Rattle.card.specs.Fields.{valuesFit}
 use Rattle.card.specs.Cards.{cardBytes}

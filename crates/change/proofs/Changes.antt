@@ -7,8 +7,9 @@ use native.Mathlib.Omega.{arith}
 use lib.ListN.{length, getD}
 use lib.Seq.{ext-getD}
 use borrow.Author.Tests.{le-leb, eq-eqb}
-use Rattle.serial.specs.Every.{both}
-use Rattle.serial.specs.Places.{part, length-part, part-at, parts-same}
+use Rattle.serial.proofs.Every.{both}
+use Rattle.serial.specs.Places.{part}
+use Rattle.serial.proofs.Places.{length-part, part-at, parts-same}
 use Rattle.section.specs.Sections.{endOf, entryAt}
 use Rattle.book.specs.Book.{countAt, cards, withdrawn, sized, Sized}
 use Rattle.change.specs.Change.{countBytes}

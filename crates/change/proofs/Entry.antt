@@ -9,7 +9,8 @@ use lib.ListN.{length, getD, take, drop, length-append, length-take, length-drop
 use lib.Seq.{length-take-le, getD-take, getD-drop, getD-append-add, ext-getD}
 use lib.Dec.{ltb}
 use borrow.Author.Tests.{ltb-true, ltb-false}
-use Rattle.serial.specs.Places.{part, put, length-part, part-at, length-put, put-below, put-in, put-over, putWithin, put-fits}
+use Rattle.serial.specs.Places.{part, put, putWithin}
+use Rattle.serial.proofs.Places.{length-part, part-at, length-put, put-below, put-in, put-over, put-fits}
 use Rattle.section.specs.Sections.{endOf}
 use Rattle.change.specs.Change.{countBytes, withEntry}
 use Rattle.section.specs.declared.Section.{Section}

@@ -8,7 +8,8 @@ use native.Mathlib.Omega.{arith}
 use lib.ListN.{take}
 use lib.Dec.{ltb}
 use borrow.Author.Tests.{ltb-true, ltb-false, lt-ltb, le-ltb, not-true}
-use Rattle.serial.specs.Every.{every, first, every-at, every-from, every-same, every-more, first-at, first-same, first-suc, first-all, and-left, and-right, both}
+use Rattle.serial.specs.Every.{every, first}
+use Rattle.serial.proofs.Every.{every-at, every-from, every-same, every-more, first-at, first-same, first-suc, first-all, and-left, and-right, both}
 use Rattle.serial.specs.Serials.{isSerial, serialOf, serialBytes}
 use Rattle.serial.proofs.Serials.{length-bytes, one-text}
 use Rattle.section.specs.Sections.{Lies, entryAt, serialAt, entryOk, entriesOk, same, fresh, distinct, sectionOk, firstOf, findIn, has}

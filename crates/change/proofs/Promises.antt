@@ -8,8 +8,9 @@ use lib.IntN.{ℤ, pos}
 use lib.ListN.{length, getD, take}
 use lib.Dec.{eqb}
 use borrow.Author.Tests.{lt-ltb, le-leb, eqb-true, eq-eqb}
-use Rattle.serial.specs.Every.{and-left, and-right, both, every-at}
-use Rattle.serial.specs.Places.{put, front-put}
+use Rattle.serial.proofs.Every.{and-left, and-right, both, every-at}
+use Rattle.serial.specs.Places.{put}
+use Rattle.serial.proofs.Places.{front-put}
 use Rattle.serial.specs.Serials.{isSerial, serialOf, serialBytes}
 use Rattle.card.specs.Fields.{fitsField, valuesFit}
 use Rattle.card.specs.Cards.{cardBytes, cardOf}

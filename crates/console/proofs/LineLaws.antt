@@ -11,7 +11,8 @@ use mir.Val.{Fits, toZ}
 use Rattle.number.proofs.Fits.{read32}
 use lib.Seq.{length-take-le}
 use borrow.Author.Tests.{le-leb, lt-leb}
-use Rattle.serial.specs.Places.{put, put-more, front-put}
+use Rattle.serial.specs.Places.{put}
+use Rattle.serial.proofs.Places.{put-more, front-put}
 use Rattle.decimal.specs.Decimals.{decimal, signedDecimal}
 use Rattle.console.specs.Answers.{gathered}
 

@@ -19,7 +19,7 @@ pub struct Row {
     pub taken: usize,
 }
 
-pub fn next_number(text: &[u8]) -> Next
+pub(super) fn next_number(text: &[u8]) -> Next
     ensures { λ r. ⌜ r ≡ nextOf (now (text .entry)) ⌝ }
 {
     if begins(text, b" ") {
@@ -35,7 +35,7 @@ pub fn next_number(text: &[u8]) -> Next
 }
 
 // A number that is a sample: within the range of i32.
-pub fn next_sample(text: &[u8]) -> Next
+pub(super) fn next_sample(text: &[u8]) -> Next
     ensures { λ r. ⌜ r ≡ sampleOf (now (text .entry)) ⌝ }
 {
     match next_number(text) {
@@ -51,7 +51,7 @@ pub fn next_sample(text: &[u8]) -> Next
 }
 
 // Takes numbers into a lent buffer, until another thing comes or the buffer is full.
-pub fn take_numbers(text: &[u8], into: &mut [i64]) -> Row
+pub(super) fn take_numbers(text: &[u8], into: &mut [i64]) -> Row
     ensures { λ r. ⌜ Filled r (now (into .exit)) (rowOf nextOf (length (now (into .entry))) (now (text .entry))) ⌝ }
 {
     let mut count = 0;
@@ -72,7 +72,7 @@ pub fn take_numbers(text: &[u8], into: &mut [i64]) -> Row
 }
 
 // The same for samples.
-pub fn take_samples(text: &[u8], into: &mut [i32]) -> Row
+pub(super) fn take_samples(text: &[u8], into: &mut [i32]) -> Row
     ensures { λ r. ⌜ Filled r (now (into .exit)) (rowOf sampleOf (length (now (into .entry))) (now (text .entry))) ⌝ }
 {
     let mut count = 0;

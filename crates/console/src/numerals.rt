@@ -17,7 +17,7 @@ pub enum Number {
 }
 
 // What a byte is worth as a digit; 16 if it is none.
-pub fn digit(c: u8) -> u64
+pub(super) fn digit(c: u8) -> u64
     ensures { λ r. ⌜ r ≡ digitOf c ⌝ }
 {
     if c < b'0' {
@@ -104,7 +104,7 @@ fn minus(s: Worth) -> Number
 }
 
 // What a text is worth as a number.
-pub fn value(text: &[u8]) -> Number
+pub(super) fn value(text: &[u8]) -> Number
     ensures { λ r. ⌜ r ≡ valueOf (now (text .entry)) ⌝ }
 {
     if begins(text, b"0x") {

@@ -5,7 +5,7 @@ ghost use lib.ListN.{length};
 ghost use Rattle.console.specs.Texts.{beginsWith, lengthTo};
 
 // Whether a text begins with a word.
-pub fn begins(text: &[u8], word: &[u8]) -> bool
+pub(super) fn begins(text: &[u8], word: &[u8]) -> bool
     ensures { λ r. ⌜ r ≡ beginsWith (now (word .entry)) (now (text .entry)) ⌝ }
 {
     let mut k = 0;
@@ -22,7 +22,7 @@ pub fn begins(text: &[u8], word: &[u8]) -> bool
 }
 
 // How far it is in a text to a byte: a space that ends an item, a line feed that ends a line. Without one, to the end.
-pub fn length_to(stop: u8, text: &[u8]) -> usize
+pub(super) fn length_to(stop: u8, text: &[u8]) -> usize
     ensures { λ r. ⌜ r ≡ lengthTo stop (now (text .entry)) ⌝ }
 {
     let mut k = 0;

@@ -179,7 +179,7 @@ fn with_samples(m: Module, rest: &[u8], v: &mut [i32], i: &mut [i32]) -> Turn
 }
 
 // A line that is neither empty nor a comment. Its samples go by way of two lent buffers, which have room for as many as a line may have.
-pub fn take_line(m: Module, line: &[u8], v: &mut [i32], i: &mut [i32]) -> Turn
+pub(super) fn take_line(m: Module, line: &[u8], v: &mut [i32], i: &mut [i32]) -> Turn
     ensures { λ r. ⌜ r ≡ turnOf (length (now (v .entry))) (length (now (i .entry))) m (now (line .entry)) ⌝ }
 {
     if LONGEST < line.len() {

@@ -16,7 +16,7 @@ pub enum Word {
     Other,
 }
 
-pub fn first_word(line: &[u8]) -> Word
+pub(super) fn first_word(line: &[u8]) -> Word
     ensures { λ r. ⌜ r ≡ wordOf (now (line .entry)) ⌝ }
 {
     if begins(line, b"start") {
@@ -47,7 +47,7 @@ pub fn first_word(line: &[u8]) -> Word
 }
 
 // How many letters a word has.
-pub fn letters(w: Word) -> usize
+pub(super) fn letters(w: Word) -> usize
     ensures { λ r. ⌜ r ≡ length (lettersOf w) ⌝ }
 {
     match w {
@@ -64,7 +64,7 @@ pub fn letters(w: Word) -> usize
 }
 
 // How many numbers follow it, where only numbers do.
-pub fn arity(w: Word) -> usize
+pub(super) fn arity(w: Word) -> usize
     ensures { λ r. ⌜ r ≡ numbersOf w ⌝ }
 {
     match w {

@@ -15,7 +15,7 @@ use Rattle.sample.specs.Sample.{voltage, phased}
 use Rattle.sample.specs.Sums.{Sample}
 use Rattle.interval.specs.Close.{closedOf}
 
--- the corrected voltage and the corrected current of each sample; `before` is the raw current before the first
+-- the corrected voltage and the current, corrected and mixed, of each sample; `before` is the raw current before the first
 unfoldable pub worked : Card → ℤ → List Sample → List Sample
 worked c before [] = []
 worked c before (x ∷ xs) = (voltage c (x .0), phased c (x .1) before) ∷ worked c (x .1) xs

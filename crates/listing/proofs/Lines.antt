@@ -10,7 +10,8 @@ use lib.ListN.{length, getD, take, length-append, length-take, length-drop}
 use mir.Syntax.{w64}
 use mir.Val.{toZ}
 use mir.Facts.{toZ-pos}
-use Rattle.serial.specs.Places.{part, put, put-none, put-more}
+use Rattle.serial.specs.Places.{part, put}
+use Rattle.serial.proofs.Places.{put-none, put-more}
 use Rattle.serial.specs.Serials.{textOf}
 use Rattle.decimal.specs.Decimals.{decimal, signedDecimal}
 use Rattle.listing.specs.Lines.{fieldsText}

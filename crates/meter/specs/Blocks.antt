@@ -20,8 +20,9 @@ use Rattle.meter.specs.Core.{core, seen, kept, samplesOf}
 unfoldable pub phaseInRange : Card → Bool
 phaseInRange c = leZ (pos 0) (field c 5) && leZ (field c 5) (pos 4095)
 
--- whether a state is one that steps can have made: the running interval is not full, its sums are those of at most as many samples as it has, and
--- its cards are in range. Whatever a start and steps make is such a state (`proofs/Soundness.antt` of crate `aberzhan`).
+-- whether no sum of the running interval can overflow: it is not full, its sums are those of at most as many samples as it has, and the PHASE of
+-- its cards is in range. 70,368,744,177,664 is 2^46, the greatest square of a number of the 24-bit range. Whatever a start and steps make passes
+-- (`proofs/Soundness.antt` of crate `aberzhan`).
 unfoldable pub soundOf : Kept → Bool
 soundOf m =
     let t = m .work .settings in
@@ -30,7 +31,7 @@ soundOf m =
     && leb (s .vv / 70368744177664) (m .taken) && leb (s .flow .ii / 70368744177664) (m .taken) && leb (natAbs (s .flow .vi) / 70368744177664) (m .taken)
     && phaseInRange (m .waiting) && phaseInRange (m .force)
 
--- the card of the next interval; a state that no steps make has none
+-- the card of the next interval; a state whose sums could overflow, which no steps make, counts as one without a card
 unfoldable pub cardOf : Kept → Option Card
 cardOf m = cond (soundOf m) (latest core (seen m)) none
 

@@ -7,7 +7,7 @@ use lib.IntN.{ℤ, pos, negsuc, natAbs}
 use mir.Syntax.{w32}
 use mir.Val.{SFits}
 use borrow.Author.Tests.{leb-true, le-ltb}
-use Rattle.serial.specs.Every.{and-left, and-right}
+use Rattle.serial.proofs.Every.{and-left, and-right}
 use Rattle.card.specs.Fields.{isField, fitsField, fieldInRange}
 use Rattle.card.proofs.Fields.{Placed, placed, value-fits}
 

@@ -103,7 +103,7 @@ fn lay(v: u32, i: u32, peak: u32, p: i32) -> [i32; 6]
     [i as i32, peak as i32, p, s as i32, f, c as i32]
 }
 
-// The figures of one current source; v is VRMS, and at most 8,388,607 of it counts.
+// The figures of one current source; vv is the sum of the voltage squares.
 pub fn figures(c: Card, vv: u64, f: Flow, n: u32) -> [i32; 6]
     ensures { λ r. ⌜ r ≡ figuresOf c (vrmsOf vv n) f n ⌝ }
 {

@@ -29,6 +29,6 @@ voltage c raw = corrected raw (voffs c) (vgain c)
 unfoldable pub current : Card → ℤ → ℤ
 current c raw = corrected raw (ioffs c) (igain c)
 
--- the corrected current: the previous one is the previous raw sample corrected with the card now in force
+-- the current as it is summed, corrected and mixed: the previous one is the previous raw sample corrected with the card now in force
 unfoldable pub phased : Card → ℤ → ℤ → ℤ
 phased c raw before = mixed (phase c) (current c raw) (current c before)

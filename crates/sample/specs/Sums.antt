@@ -9,7 +9,7 @@ use Rattle.sample.specs.declared.Flow.{Flow}
 use Rattle.sample.specs.declared.Sums.{Sums}
 use Rattle.sample.specs.Sample.{voltage, phased}
 
--- a sample of corrected voltage v and corrected current i joins the sums of a current source
+-- a sample of corrected voltage v and of current i, corrected and mixed, joins the sums of a current source
 unfoldable pub joined : Flow → ℤ → ℤ → Flow
 joined f v i = record { ii = f .ii + squareOf i; vi = f .vi +ℤ v *ℤ i; peak = max (f .peak) (natAbs i) }
 
@@ -17,7 +17,7 @@ joined f v i = record { ii = f .ii + squareOf i; vi = f .vi +ℤ v *ℤ i; peak 
 unfoldable pub previous : Sums → ℤ → ℤ
 previous s raw = cond (s .seen) (s .raw) raw
 
--- one sample more: corrected voltage v, corrected current i; its raw current is kept for the next
+-- one sample more: corrected voltage v, current i corrected and mixed; its raw current is kept for the next
 unfoldable pub summed : Sums → ℤ → ℤ → ℤ → Sums
 summed s v i raw = record { vv = s .vv + squareOf v; flow = joined (s .flow) v i; seen = true; raw = raw }
 

@@ -9,7 +9,7 @@ use lib.ListN.{length, getD, take, drop}
 use lib.Seq.{take-take, ext-getD}
 use lib.Dec.{leb, eqb}
 use borrow.Author.Tests.{ne-eqb, eq-eqb, eqb-true, leb-true, leb-false, le-leb, lt-leb}
-use Rattle.serial.specs.Every.{every-at, every-from, every-fails, and-left, and-right, both}
+use Rattle.serial.proofs.Every.{every-at, every-from, every-fails, and-left, and-right, both}
 use Rattle.serial.specs.Places.{part}
 use Rattle.serial.specs.Serials.{serialOf, serialBytes}
 use Rattle.section.specs.Sections.{placeOf, endOf, Lies, lies, entryAt, serialAt, entriesOk, same, distinct, sectionOk, firstOf, findIn}

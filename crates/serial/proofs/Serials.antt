@@ -9,7 +9,8 @@ use lib.ListN.{length, getD, replicate, length-append, length-take, length-drop,
 use lib.Seq.{getD-take, getD-drop, getD-append-add, ext-getD, take-at}
 use lib.Dec.{leb, ltb, eqb}
 use borrow.Author.Tests.{leb-true, le-leb, ltb-true, ltb-false, lt-ltb, eq-eqb, eqb-true}
-use Rattle.serial.specs.Every.{every, every-at, every-from, and-left, and-right, both}
+use Rattle.serial.specs.Every.{every}
+use Rattle.serial.proofs.Every.{every-at, every-from, and-left, and-right, both}
 use Rattle.serial.specs.Serials.{isDigit, digitsOk, isSerial, padded, serialOf, serialBytes, placeOk, holdsSerial, textOf}
 
 -- what a serial's text has

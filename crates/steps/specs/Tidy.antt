@@ -1,5 +1,5 @@
--- How the shorter sequence looks, and that nothing else was touched: the laws that tie `shorter` to demand 3's words without a look
--- at its three passes.
+-- How the shorter sequence looks, and that nothing else was touched: laws that tie `shorter` to demand 3's words. They say what the
+-- second and third pass come to; which steps the first strikes out, and that a card still open keeps its place, is for `Shorter` to say.
 use mathlib.Core.Path.{_≡_}
 use mathlib.Core.List.{List, [], _∷_, _++_}
 use mathlib.Core.Option.{Option, none, some}

@@ -36,7 +36,7 @@ unfolding byteOf words trackable untracked
 here c = ap (λ (b : ByteAddr). b .0) (c .byte-of .ensures) ∙ sym (List·getD-map (λ (w : ℕ). 3 * w) words (c .before .before .loop .k) 0)
 
 returns : tie.Need-returns Inv-loop μ-loop
-unfolding registerOf
+unfolding registerOf byteOf
 returns c =
     let top = c .before .before .before .before in
     sym (position-at (top .before .args .a .0) (map (λ (w : ℕ). 3 * w) words) (top .loop .k) (omega (arith, bytes-long)) (top .loop .inv .1) (sym (here (c .before .before)) ∙ c .if1 .taken))
@@ -53,7 +53,7 @@ loop-again c =
     (omega arith, below-more _ _ (top .loop .inv .1) (λ e. c .if1 .left (here (c .before .before) ∙ e)))
 
 returns-2 : tie.Need-returns-2 Inv-loop μ-loop
-unfolding registerOf
+unfolding registerOf byteOf
 returns-2 c = sym (position-none (c .before .before .args .a .0) (map (λ (w : ℕ). 3 * w) words) (λ j l. c .before .loop .inv .1 j (omega (arith, bytes-long))) ∙ bytes-long)
 
 pub register-of-spec : {M : Type 1} → statement M

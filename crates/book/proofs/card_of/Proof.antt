@@ -5,7 +5,7 @@ use native.Mathlib.Omega.{arith}
 use lib.ListN.{length}
 use lib.Dec.{eqb}
 use denote.Ref.{now}
-use Rattle.serial.specs.Places.{lent}
+use Rattle.serial.proofs.Places.{lent}
 use Rattle.book.specs.Answers.{Answer, accepted, foundAnswer}
 use Rattle.book.specs.Lookup.{lookupOf, cardPart}
 use Rattle.book.proofs.Answers.{not-at, place-fits}

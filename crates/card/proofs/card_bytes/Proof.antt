@@ -7,7 +7,8 @@ use lib.IntN.{pos}
 use lib.ListN.{length, getD, take, replicate}
 use mir.Syntax.{w64}
 use mir.Facts.{toZ-ofZ}
-use Rattle.serial.specs.Places.{put, put-fits, front-put}
+use Rattle.serial.specs.Places.{put}
+use Rattle.serial.proofs.Places.{put-fits, front-put}
 use Rattle.serial.specs.Serials.{serialBytes}
 use Rattle.card.specs.Cards.{bits24, threeBytes, fieldsBytes}
 use Rattle.card.proofs.Cards.{fields-turn, fields-done}

@@ -7,7 +7,8 @@ use lib.IntN.{pos}
 use mir.Syntax.{w32}
 use mir.Facts.{toZ-ofZ}
 use denote.Ref.{now}
-use Rattle.serial.specs.Places.{tab, fill-none, fill-more, fill-all}
+use Rattle.serial.specs.Places.{tab}
+use Rattle.serial.proofs.Places.{fill-none, fill-more, fill-all}
 use Rattle.card.specs.Cards.{fieldAt, fieldsAt}
 use borrow.Author.Needs.{needs}
 use Rattle.card.proofs.fields_at.Statement.{statement}

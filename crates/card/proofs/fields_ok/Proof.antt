@@ -6,7 +6,8 @@ use mir.Syntax.{w32}
 use mir.Val.{SFits, toZ, ofZ}
 use Rattle.number.proofs.Fits.{widen}
 use mir.Facts.{toZ-ofZ}
-use Rattle.serial.specs.Every.{every, every-none, every-step}
+use Rattle.serial.specs.Every.{every}
+use Rattle.serial.proofs.Every.{every-none, every-step}
 use Rattle.card.specs.Fields.{fitsField}
 use Rattle.card.specs.Cards.{fieldAt, fieldsOk}
 use borrow.Author.Needs.{needs}

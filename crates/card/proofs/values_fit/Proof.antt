@@ -6,7 +6,8 @@ use lib.IntN.{pos}
 use lib.ListN.{getD}
 use mir.Syntax.{w64}
 use mir.Facts.{toZ-ofZ}
-use Rattle.serial.specs.Every.{every, every-none, every-step}
+use Rattle.serial.specs.Every.{every}
+use Rattle.serial.proofs.Every.{every-none, every-step}
 use Rattle.card.specs.Fields.{fitsField, valuesFit}
 use borrow.Author.Needs.{needs}
 use Rattle.card.proofs.values_fit.Statement.{statement}

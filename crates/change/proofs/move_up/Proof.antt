@@ -5,7 +5,8 @@ use native.Mathlib.Omega.{arith}
 use lib.ListN.{length, length-set}
 use denote.Ref.{now}
 use borrow.Author.Needs.{needs}
-use Rattle.serial.specs.Places.{part, put, move-more, put-part-none}
+use Rattle.serial.specs.Places.{part, put}
+use Rattle.serial.proofs.Places.{move-more, put-part-none}
 use Rattle.change.proofs.move_up.Statement.{statement}
 use Rattle.change.proofs.move_up.Tie as tie
 

@@ -1,6 +1,6 @@
 -- `entry_line` meets its contract.
 use mathlib.Core.Path.{refl, sym}
-use Rattle.serial.specs.Places.{put-none}
+use Rattle.serial.proofs.Places.{put-none}
 use Rattle.listing.specs.Lines.{entryLine}
 use Rattle.listing.proofs.Lines.{part-short}
 use borrow.Author.Needs.{needs}

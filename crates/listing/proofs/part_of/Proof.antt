@@ -2,7 +2,7 @@
 use mathlib.Core.Path.{sym}
 use native.Mathlib.Nat.{sub-self}
 use denote.Ref.{now}
-use Rattle.serial.specs.Places.{lent, part-past, part-rest}
+use Rattle.serial.proofs.Places.{lent, part-past, part-rest}
 use borrow.Author.Needs.{needs}
 use Rattle.listing.proofs.part_of.Statement.{statement}
 use Rattle.listing.proofs.part_of.Tie as tie

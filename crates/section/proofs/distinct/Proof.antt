@@ -9,8 +9,9 @@ use lib.ListN.{length, getD}
 use denote.Ref.{now}
 use borrow.Author.Needs.{needs}
 use borrow.Author.Tests.{lt-leb, le-leb, eq-eqb}
-use Rattle.serial.specs.Every.{every, every-none, every-more, every-fails}
-use Rattle.serial.specs.Places.{row-fits, part-at}
+use Rattle.serial.specs.Every.{every}
+use Rattle.serial.proofs.Every.{every-none, every-more, every-fails}
+use Rattle.serial.proofs.Places.{row-fits, part-at}
 use Rattle.section.specs.Sections.{same, serialAt, fresh, distinct}
 use Rattle.section.specs.declared.Section.{Section}
 use Rattle.section.proofs.Sections.{not-same}

@@ -3,8 +3,10 @@ use Prim.Native.Nat.{ℕ, _+_, _*_, _-_, _≤_}
 use mathlib.Core.Path.{_≡_, sym}
 use native.Mathlib.Omega.{arith}
 use denote.Ref.{now}
-use Rattle.serial.specs.Every.{every, every-none, every-step}
-use Rattle.serial.specs.Places.{part, row-fits, lent}
+use Rattle.serial.specs.Every.{every}
+use Rattle.serial.proofs.Every.{every-none, every-step}
+use Rattle.serial.specs.Places.{part}
+use Rattle.serial.proofs.Places.{row-fits, lent}
 use Rattle.section.specs.Sections.{entryAt, entryOk, entriesOk}
 use borrow.Author.Needs.{needs}
 use Rattle.section.proofs.entries_ok.Statement.{statement}

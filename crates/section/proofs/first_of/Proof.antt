@@ -3,8 +3,10 @@ use Prim.Native.Nat.{ℕ, _+_, _*_, _-_, _≤_}
 use mathlib.Core.Path.{_≡_, sym, ap, _∙_}
 use mathlib.Core.Bool.{true, not}
 use native.Mathlib.Omega.{arith}
-use Rattle.serial.specs.Every.{every, every-none, every-more, first-at, first-none}
-use Rattle.serial.specs.Places.{part, row-fits}
+use Rattle.serial.specs.Every.{every}
+use Rattle.serial.proofs.Every.{every-none, every-more, first-at, first-none}
+use Rattle.serial.specs.Places.{part}
+use Rattle.serial.proofs.Places.{row-fits}
 use Rattle.section.specs.Sections.{serialAt, same, firstOf}
 use borrow.Author.Needs.{needs}
 use Rattle.section.proofs.first_of.Statement.{statement}

@@ -7,8 +7,10 @@ use lib.ListN.{getD}
 use lib.Dec.{eqb}
 use denote.Ref.{now}
 use borrow.Author.Tests.{eq-eqb, ne-eqb}
-use Rattle.serial.specs.Every.{every, every-none, every-more, every-fails}
-use Rattle.serial.specs.Places.{part, part-at}
+use Rattle.serial.specs.Every.{every}
+use Rattle.serial.proofs.Every.{every-none, every-more, every-fails}
+use Rattle.serial.specs.Places.{part}
+use Rattle.serial.proofs.Places.{part-at}
 use Rattle.section.specs.Sections.{same}
 use borrow.Author.Needs.{needs}
 use Rattle.section.proofs.same_at.Statement.{statement}

@@ -5,7 +5,8 @@ use native.Mathlib.Omega.{arith}
 use lib.ListN.{length, getD}
 use borrow.Author.Needs.{needs}
 use Rattle.serial.specs.Serials.{isDigit, digitsOk}
-use Rattle.serial.specs.Every.{every, every-none, every-step}
+use Rattle.serial.specs.Every.{every}
+use Rattle.serial.proofs.Every.{every-none, every-step}
 use Rattle.serial.proofs.all_digits.Statement.{statement}
 use Rattle.serial.proofs.all_digits.Tie as tie
 

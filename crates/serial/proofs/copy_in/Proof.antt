@@ -6,7 +6,7 @@ use lib.ListN.{length, length-set}
 use lib.Seq.{paste}
 use denote.Ref.{now}
 use borrow.Author.Needs.{needs}
-use Rattle.serial.specs.Places.{copied-none, copied-more, copied-all}
+use Rattle.serial.proofs.Places.{copied-none, copied-more, copied-all}
 use Rattle.serial.proofs.copy_in.Statement.{statement}
 use Rattle.serial.proofs.copy_in.Tie as tie
 

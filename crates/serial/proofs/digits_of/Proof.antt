@@ -3,7 +3,8 @@ use mathlib.Core.Path.{_∙_}
 use native.Mathlib.Nat.{zero-add}
 use lib.ListN.{length}
 use denote.Ref.{now}
-use Rattle.serial.specs.Places.{put, drop-replicate}
+use Rattle.serial.specs.Places.{put}
+use Rattle.serial.proofs.Places.{drop-replicate}
 use Rattle.serial.specs.Serials.{padded}
 use borrow.Author.Needs.{needs}
 use Rattle.serial.proofs.digits_of.Statement.{statement}

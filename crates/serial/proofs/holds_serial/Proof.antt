@@ -7,7 +7,8 @@ use lib.ListN.{getD}
 use lib.Dec.{leb}
 use borrow.Author.Needs.{needs}
 use Rattle.serial.specs.Serials.{placeOk, holdsSerial}
-use Rattle.serial.specs.Every.{every, gather-none, gather-step}
+use Rattle.serial.specs.Every.{every}
+use Rattle.serial.proofs.Every.{gather-none, gather-step}
 use Rattle.serial.proofs.holds_serial.Statement.{statement}
 use Rattle.serial.proofs.holds_serial.Tie as tie
 

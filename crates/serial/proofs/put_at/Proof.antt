@@ -5,7 +5,8 @@ use lib.ListN.{length}
 use denote.Ref.{now}
 use native.Mathlib.Omega.{arith}
 use borrow.Author.Tests.{lt-leb}
-use Rattle.serial.specs.Places.{putWithin, put-fits}
+use Rattle.serial.specs.Places.{putWithin}
+use Rattle.serial.proofs.Places.{put-fits}
 use borrow.Author.Needs.{needs}
 use Rattle.serial.proofs.put_at.Statement.{statement}
 use Rattle.serial.proofs.put_at.Tie as tie

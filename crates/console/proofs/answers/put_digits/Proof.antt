@@ -8,7 +8,7 @@ use lib.ListN.{length, take}
 use lib.Seq.{length-take-le}
 use denote.Ref.{now}
 use borrow.Author.Tests.{le-leb, lt-leb}
-use Rattle.serial.specs.Places.{put-none}
+use Rattle.serial.proofs.Places.{put-none}
 use Rattle.console.specs.Answers.{digitsText}
 use borrow.Author.Needs.{needs}
 use Rattle.console.proofs.answers.put_digits.Statement.{statement}

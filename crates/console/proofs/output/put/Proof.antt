@@ -3,7 +3,7 @@ use mathlib.Core.Path.{sym, _∙_}
 use native.Mathlib.Omega.{arith}
 use lib.Seq.{length-take-le}
 use denote.Ref.{now}
-use Rattle.serial.specs.Places.{put-fits, length-put}
+use Rattle.serial.proofs.Places.{put-fits, length-put}
 use Rattle.console.proofs.LineLaws.{put-behind, put-anew}
 use borrow.Author.Needs.{needs}
 use Rattle.console.proofs.output.put.Statement.{statement}

@@ -4,7 +4,7 @@ use native.Mathlib.Omega.{arith}
 use Prim.Native.Nat.{_≤_}
 use lib.ListN.{length, take, replicate}
 use lib.Seq.{length-take-le}
-use Rattle.serial.specs.Places.{length-put}
+use Rattle.serial.proofs.Places.{length-put}
 use Rattle.console.specs.Answers.{answerText}
 use Rattle.console.proofs.LineLaws.{taken-out}
 use borrow.Author.Needs.{needs}

@@ -2,7 +2,7 @@
 use Prim.Native.Nat.{ℕ, _+_}
 use mathlib.Core.Path.{_≡_, ap, _∙_}
 use native.Mathlib.Omega.{arith}
-use Rattle.serial.specs.Places.{put-last}
+use Rattle.serial.proofs.Places.{put-last}
 use Rattle.serial.specs.Serials.{serialBytes}
 use lib.ListN.{length}
 use borrow.Author.Needs.{needs}

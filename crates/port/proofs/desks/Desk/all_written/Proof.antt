@@ -5,7 +5,8 @@ use mathlib.Core.Bool.{false}
 use native.Mathlib.Omega.{arith}
 use lib.ListN.{getD}
 use borrow.Author.Needs.{needs}
-use Rattle.serial.specs.Every.{every, every-none, every-step}
+use Rattle.serial.specs.Every.{every}
+use Rattle.serial.proofs.Every.{every-none, every-step}
 use Rattle.port.specs.Desks.{allWritten}
 use Rattle.port.proofs.desks.Desk.all_written.Statement.{statement}
 use Rattle.port.proofs.desks.Desk.all_written.Tie as tie
