@@ -1,4 +1,4 @@
--- What committed cards and accepted blocks keep holds at the end of every sequence of steps.
+-- What committed cards and accepted blocks keep holds at the end of every sequence of steps. To use: make a `Lasting`, and cite `always`.
 use mathlib.Core.Path.{_≡_, refl, sym, subst}
 use mathlib.Core.List.{List, [], _∷_, _++_, append-nil, append-assoc}
 use mathlib.Core.Option.{none, some}
@@ -7,7 +7,12 @@ use Rattle.steps.specs.Port.{on}
 use Rattle.steps.specs.Parts.{Parts}
 use Rattle.steps.specs.Module.{edit, commit, dropCard, hold, read, Step, atPort, block, State, Report, silent, commits, tells, closes, didEdit, didCommit, didDrop, didHold, didRead, didBlock, Done}
 use Rattle.steps.specs.Run.{Run, withReport, follow, run}
-use Rattle.steps.specs.Always.{Lasting, Always}
+
+-- a fact about a meter and the intervals closed so far, which a committed card and an accepted block keep
+pub record Lasting (P : Parts) : Type 1 where
+  pub Of : P .Meter → List (P .Closed) → Type 0
+  pub on-wait : (c : P .Card) (m : P .Meter) (h : List (P .Closed)) → Of m h → Of (P .wait c m) h
+  pub on-feed : (m : P .Meter) (h : List (P .Closed)) (b : P .Block) (r : P .Meter × List (P .Closed)) → P .feed m b ≡ accepted r → Of m h → Of (r .0) (h ++ r .1)
 
 module _ (P : Parts) (L : Lasting P) where
   open Lasting L using (Of, on-wait, on-feed)
@@ -54,5 +59,5 @@ module _ (P : Parts) (L : Lasting P) where
   keeps (block b ∷ r) s h i =
       step-keeps (run P r) (keeps r) s h i (P .feed (s .meter) b) (didBlock P b s) (λ w q. on-feed (s .meter) h b w q i)
 
-  pub always : (s : State P) (xs : List (Step P)) → Always P L s xs
+  pub always : (s : State P) (xs : List (Step P)) → Of (s .meter) [] → Of (run P xs s .end .meter) (run P xs s .closed)
   always s xs i = keeps xs s [] i

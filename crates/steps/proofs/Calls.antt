@@ -1,148 +1,111 @@
--- Calls of code, one after the other, do what the run does; so demand 3 holds of the calls, and of the struct that the code keeps.
+-- Calls of code, one after the other, do what the run does; so demand 3 holds of the calls, and of the struct that the code keeps. To use:
+-- show what the methods' contracts allow (`Does`), and cite `calls-demand3`.
 use Prim.Native.Nat.{suc}
 use mathlib.Core.Path.{_≡_, refl, ap, sym, subst, _∙_}
-use mathlib.Core.List.{List, [], _∷_}
+use mathlib.Core.List.{List, [], _∷_, map}
 use mathlib.Core.Option.{none, some}
 use Rattle.steps.specs.Answers.{OrRefusal, refused, accepted, andThen}
-use Rattle.steps.specs.Port.{Port, port0, port1, PerPort, on, putOn}
+use Rattle.steps.specs.Port.{Port, PerPort, on, putOn}
 use Rattle.steps.specs.Parts.{Parts}
-use Rattle.steps.specs.Module.{Op, edit, commit, dropCard, hold, read, Step, atPort, block, State, withMeter, withDesk, withHeld, fresh, Report, silent, commits, tells, closes, Outcome, step, didEdit, didCommit, didDrop, didHold, didRead, didBlock, Done}
+use Rattle.steps.specs.Module.{Op, edit, commit, dropCard, hold, read, Step, atPort, block, State, withHeld, fresh, Report, silent, commits, tells, closes, Outcome, step, didEdit, didCommit, didDrop, didBlock, Done}
 use Rattle.steps.specs.Run.{Run, withReport, follow, run}
 use Rattle.steps.specs.Shorter.{stepsOf, shorter}
-use Rattle.steps.specs.Calls.{Reply, reply, after, Sound, SoundState, Code, Log, noted, calls, CallsRun, CallsDemand3}
+use Rattle.steps.specs.Calls.{Reply, reply, after, Methods, Log, noted, Ran, ended, called, asked, shorterCalls, CallsDemand3}
 use Rattle.steps.proofs.Demand3.{demand3}
+use Rattle.steps.proofs.Sound.{Sound, SoundState, step-sound}
 
-module _ (P : Parts) where
-  report-end : (a : Report P) (r : Run P) → withReport P a r .end ≡ r .end
-  report-end silent r = refl
-  report-end (commits c) r = refl
-  report-end (tells p o v) r = refl
-  report-end (closes b c) r = refl
+-- what a method's contract allows is what its step does, in every sound state; and every step has its call
+pub record Does (P : Parts) (S : Sound P) (M : Methods P) : Type 0 where
+  pub replies : (k : M .Call) (m : M .Kept) (o : Reply P × M .Kept) → SoundState P S (M .stateOf m) → M .Allows k m o → o .0 ≡ reply P (step P (M .stepOf k) (M .stateOf m))
+  pub leaves : (k : M .Call) (m : M .Kept) (o : Reply P × M .Kept) → SoundState P S (M .stateOf m) → M .Allows k m o →
+      M .stateOf (o .1) ≡ after P (step P (M .stepOf k) (M .stateOf m)) (M .stateOf m)
+  pub step-call : (x : Step P) → M .stepOf (M .callOf x) ≡ x
 
-  follow-end : (o : Outcome P) (s : State P) (rest : State P → Run P) → follow P o s rest .end ≡ rest (after P o s) .end
-  follow-end (refused n) s rest = refl
-  follow-end (accepted r) s rest = report-end (r .0) (rest (r .1))
+module _ (P : Parts) (S : Sound P) (M : Methods P) (A : Does P S M) where
+  open Methods M using (Kept, stateOf, Call, stepOf, callOf, Allows)
 
-  module _ (S : Sound P) where
-    open Sound S using (OfDesk, OfMeter, shut-sound, edited-sound, finished-sound, wait-sound, feed-sound)
+  abbrev Agree : Log P Kept → Run P → Type 0
+  Agree l r = (l .refusals ≡ r .refusals) × (l .heard ≡ r .heard) × (stateOf (l .end) ≡ r .end)
 
-    -- ---- every step keeps a sound state
+  -- a step that tells nothing
+  abbrev Untold : Report P → Type 0
+  Untold silent = Unit {0}
+  Untold (commits c) = Unit {0}
+  Untold (tells p op v) = ⊥
+  Untold (closes b c) = Unit {0}
 
-    with-desk : (p : Port) (d : P .Desk) (s : State P) → OfDesk d → SoundState P S s → SoundState P S (withDesk P p d s)
-    with-desk p d s i w = record { meter = w .meter; desks = by p }
-      where
-        by : (p q : Port) → OfDesk (on (putOn p d (s .desks)) q)
-        by port0 port0 = i
-        by port0 port1 = w .desks port1
-        by port1 port0 = w .desks port0
-        by port1 port1 = i
+  module _ (rest : State P → Run P) (s : State P) (l : Log P Kept) where
+    report-agree : (x : Step P) (a : Report P) (t : State P) → Untold a → Agree l (rest t) → Agree (noted P Kept x (reply P (accepted (a, t))) l) (withReport P a (rest t))
+    report-agree x silent t u g = g
+    report-agree x (commits c) t u g = g
+    report-agree x (tells p op v) t u g = absurd u
+    report-agree x (closes b c) t u g = g
 
-    with-meter : (m : P .Meter) (s : State P) → OfMeter m → SoundState P S s → SoundState P S (withMeter P m s)
-    with-meter m s i w = record { meter = i; desks = w .desks }
+    other-agree : {A : Type 0} (x : Step P) (q : OrRefusal A) (f : A → Done P) → ((a : A) → Untold (f a .0)) → Agree l (rest (after P (andThen q f) s)) →
+        Agree (noted P Kept x (reply P (andThen q f)) l) (follow P (andThen q f) s rest)
+    other-agree x (refused n) f u g = (ap suc (g .0), g .1, g .2)
+    other-agree x (accepted a) f u g = report-agree x (f a .0) (f a .1) (u a) g
 
-    with-held : (p : Port) (h : P .Held) (s : State P) → SoundState P S s → SoundState P S (withHeld P p h s)
-    with-held p h s w = record { meter = w .meter; desks = w .desks }
+    told-agree : {A : Type 0} (p : Port) (op : Op P) (q : OrRefusal A) (v : A → P .Value) (t : A → State P) →
+        let o : Outcome P = andThen q (λ a. (tells p op (v a), t a)) in
+        Agree l (rest (after P o s)) → Agree (noted P Kept (atPort (some p) op) (reply P o) l) (follow P o s rest)
+    told-agree p op (refused n) v t g = (ap suc (g .0), g .1, g .2)
+    told-agree p op (accepted a) v t g = (g .0, ap (λ (z : PerPort (List (Op P × P .Value))). putOn p ((op, v a) ∷ on z p) z) (g .1), g .2)
 
-    after-sound : {A : Type 0} (q : OrRefusal A) (f : A → Done P) (s : State P) → SoundState P S s → ((a : A) → q ≡ accepted a → SoundState P S (f a .1)) →
-        SoundState P S (after P (andThen q f) s)
-    after-sound (refused n) f s w k = w
-    after-sound (accepted a) f s w k = k a refl
+    step-agree : (x : Step P) → Agree l (rest (after P (step P x s) s)) → Agree (noted P Kept x (reply P (step P x s)) l) (follow P (step P x s) s rest)
+    step-agree (atPort none op) g = (ap suc (g .0), g .1, g .2)
+    step-agree (atPort (some p) (edit e)) g = other-agree (atPort (some p) (edit e)) (P .edited (on (s .desks) p) e) (didEdit P p s) (λ d. tt) g
+    step-agree (atPort (some p) commit) g =
+        other-agree (atPort (some p) commit) (P .finished (on (s .desks) p)) (didCommit P p s) (λ c. tt) g
+    step-agree (atPort (some p) dropCard) g = other-agree (atPort (some p) dropCard) (P .discarded (on (s .desks) p)) (didDrop P p s) (λ u. tt) g
+    step-agree (atPort (some p) (hold k)) g = told-agree p (hold k) (P .copy k (s .meter)) (P .told k) (λ h. withHeld P p h s) g
+    step-agree (atPort (some p) (read a)) g = told-agree p (read a) (P .look (on (s .holds) p) a) (λ v. v) (λ v. s) g
+    step-agree (block b) g = other-agree (block b) (P .feed (s .meter) b) (didBlock P b s) (λ r. tt) g
 
-    pub step-sound : (x : Step P) (s : State P) → SoundState P S s → SoundState P S (after P (step P x s) s)
-    step-sound (atPort none op) s w = w
-    step-sound (atPort (some p) (edit e)) s w =
-        after-sound (P .edited (on (s .desks) p) e) (didEdit P p s) s w (λ d q. with-desk p d s (edited-sound (on (s .desks) p) e d (w .desks p) q) w)
-    step-sound (atPort (some p) commit) s w =
-        after-sound (P .finished (on (s .desks) p)) (didCommit P p s) s w
-        (λ c q. with-meter (P .wait c (s .meter)) (withDesk P p (P .shut) s) (wait-sound c (s .meter) (finished-sound (on (s .desks) p) c (w .desks p) q) (w .meter)) (with-desk p (P .shut) s shut-sound w))
-    step-sound (atPort (some p) dropCard) s w =
-        after-sound (P .discarded (on (s .desks) p)) (didDrop P p s) s w (λ u q. with-desk p (P .shut) s shut-sound w)
-    step-sound (atPort (some p) (hold k)) s w =
-        after-sound (P .copy k (s .meter)) (didHold P p k s) s w (λ h q. with-held p h s w)
-    step-sound (atPort (some p) (read a)) s w = after-sound (P .look (on (s .holds) p) a) (didRead P p a s) s w (λ v q. w)
-    step-sound (block b) s w =
-        after-sound (P .feed (s .meter) b) (didBlock P b s) s w (λ r q. with-meter (r .0) s (feed-sound (s .meter) b r (w .meter) q) w)
+  agree : {ks : List Call} {m : Kept} {l : Log P Kept} → Ran P M ks m l → SoundState P S (stateOf m) → Agree l (run P (map stepOf ks) (stateOf m))
+  agree ended w = (refl, refl, refl)
+  agree (called {k} {ks} {m} {o} {l} a r) w =
+      let e = A .leaves k m o w a in
+      let g = agree r (subst (SoundState P S) (sym e) (step-sound P S (stepOf k) (stateOf m) w)) in
+      subst (λ (z : Reply P). Agree (noted P Kept (stepOf k) z l) (run P (map stepOf (k ∷ ks)) (stateOf m))) (sym (A .replies k m o w a))
+      (step-agree (run P (map stepOf ks)) (stateOf m) l (stepOf k) (subst (λ (t : State P). Agree l (run P (map stepOf ks) t)) e g))
 
-    pub always-sound : (xs : List (Step P)) (s : State P) → SoundState P S s → SoundState P S (run P xs s .end)
-    always-sound [] s w = w
-    always-sound (x ∷ xs) s w =
-        subst (SoundState P S) (sym (follow-end (step P x s) s (run P xs))) (always-sound xs (after P (step P x s) s) (step-sound x s w))
+  steps-back : (xs : List (Step P)) → map stepOf (map callOf xs) ≡ xs
+  steps-back [] = refl
+  steps-back (x ∷ xs) = ap (λ (y : Step P). y ∷ map stepOf (map callOf xs)) (A .step-call x) ∙ ap (λ (ys : List (Step P)). x ∷ ys) (steps-back xs)
 
-    -- ---- a log of calls beside a run
+  -- ---- demand 3 of the calls
 
-    module _ (C : Code P S) where
-      open Code C using (Kept, seen, call, replies, leaves)
+  module _ (m : P .Meter) (z : Kept) (start : stateOf z ≡ fresh P m) (w : SoundState P S (fresh P m)) (ks : List Call) where
+    abbrev long : Run P
+    long = run P (map stepOf ks) (fresh P m)
 
-      abbrev Agree : Log P S C → Run P → Type 0
-      Agree l r = (l .refusals ≡ r .refusals) × (l .heard ≡ r .heard) × (seen (l .end) ≡ r .end)
+    abbrev short : Run P
+    short = run P (stepsOf P (shorter P (fresh P m) (map stepOf ks))) (fresh P m)
 
-      -- a step that tells nothing
-      abbrev Untold : Report P → Type 0
-      Untold silent = Unit {0}
-      Untold (commits c) = Unit {0}
-      Untold (tells p op v) = ⊥
-      Untold (closes b c) = Unit {0}
+    good : SoundState P S (stateOf z)
+    good = subst (SoundState P S) (sym start) w
 
-      module _ (rest : State P → Run P) (s : State P) (l : Log P S C) where
-        report-agree : (x : Step P) (a : Report P) (t : State P) → Untold a → Agree l (rest t) → Agree (noted P S C x (reply P (accepted (a, t))) l) (withReport P a (rest t))
-        report-agree x silent t u g = g
-        report-agree x (commits c) t u g = g
-        report-agree x (tells p op v) t u g = absurd u
-        report-agree x (closes b c) t u g = g
+    long-is : (l : Log P Kept) → Ran P M ks z l → Agree l long
+    long-is l r = subst (λ (s : State P). Agree l (run P (map stepOf ks) s)) start (agree r good)
 
-        other-agree : {A : Type 0} (x : Step P) (q : OrRefusal A) (f : A → Done P) → ((a : A) → Untold (f a .0)) → Agree l (rest (after P (andThen q f) s)) →
-            Agree (noted P S C x (reply P (andThen q f)) l) (follow P (andThen q f) s rest)
-        other-agree x (refused n) f u g = (ap suc (g .0), g .1, g .2)
-        other-agree x (accepted a) f u g = report-agree x (f a .0) (f a .1) (u a) g
+    short-is : (l : Log P Kept) → Ran P M (shorterCalls P M z ks) z l → Agree l short
+    short-is l r =
+        subst (λ (s : State P). Agree l (run P (stepsOf P (shorter P s (map stepOf ks))) s)) start
+        (subst (λ (xs : List (Step P)). Agree l (run P xs (stateOf z))) (steps-back (stepsOf P (shorter P (stateOf z) (map stepOf ks)))) (agree r good))
 
-        told-agree : {A : Type 0} (p : Port) (op : Op P) (q : OrRefusal A) (v : A → P .Value) (t : A → State P) →
-            let o : Outcome P = andThen q (λ a. (tells p op (v a), t a)) in
-            Agree l (rest (after P o s)) → Agree (noted P S C (atPort (some p) op) (reply P o) l) (follow P o s rest)
-        told-agree p op (refused n) v t g = (ap suc (g .0), g .1, g .2)
-        told-agree p op (accepted a) v t g = (g .0, ap (λ (z : PerPort (List (Op P × P .Value))). putOn p ((op, v a) ∷ on z p) z) (g .1), g .2)
-
-        step-agree : (x : Step P) → Agree l (rest (after P (step P x s) s)) → Agree (noted P S C x (reply P (step P x s)) l) (follow P (step P x s) s rest)
-        step-agree (atPort none op) g = (ap suc (g .0), g .1, g .2)
-        step-agree (atPort (some p) (edit e)) g = other-agree (atPort (some p) (edit e)) (P .edited (on (s .desks) p) e) (didEdit P p s) (λ d. tt) g
-        step-agree (atPort (some p) commit) g =
-            other-agree (atPort (some p) commit) (P .finished (on (s .desks) p)) (didCommit P p s) (λ c. tt) g
-        step-agree (atPort (some p) dropCard) g = other-agree (atPort (some p) dropCard) (P .discarded (on (s .desks) p)) (didDrop P p s) (λ u. tt) g
-        step-agree (atPort (some p) (hold k)) g = told-agree p (hold k) (P .copy k (s .meter)) (P .told k) (λ h. withHeld P p h s) g
-        step-agree (atPort (some p) (read a)) g = told-agree p (read a) (P .look (on (s .holds) p) a) (λ v. v) (λ v. s) g
-        step-agree (block b) g = other-agree (block b) (P .feed (s .meter) b) (didBlock P b s) (λ r. tt) g
-
-      agree : (xs : List (Step P)) (k : Kept) → SoundState P S (seen k) → Agree (calls P S C xs k) (run P xs (seen k))
-      agree [] k w = (refl, refl, refl)
-      agree (x ∷ xs) k w =
-          let o = step P x (seen k) in
-          let l = calls P S C xs (call x k .1) in
-          let e = leaves x k w in
-          let g = agree xs (call x k .1) (subst (SoundState P S) (sym e) (step-sound x (seen k) w)) in
-          subst (λ (z : Reply P). Agree (noted P S C x z l) (run P (x ∷ xs) (seen k))) (sym (replies x k w))
-          (step-agree (run P xs) (seen k) l x (subst (λ (t : State P). Agree l (run P xs t)) e g))
-
-      pub calls-run : (xs : List (Step P)) (k : Kept) → SoundState P S (seen k) → CallsRun P S C xs k
-      calls-run xs k w = let g = agree xs k w in record { refusals = g .0; heard = g .1; end = g .2 }
-
-      -- ---- demand 3 of the calls
-
-      module _ (m : P .Meter) (z : Kept) (start : seen z ≡ fresh P m) (w : SoundState P S (fresh P m)) (xs : List (Step P)) where
-        from-fresh : (ys : List (Step P)) → Agree (calls P S C ys z) (run P ys (fresh P m))
-        from-fresh ys = subst (λ (s : State P). Agree (calls P S C ys z) (run P ys s)) start (agree ys z (subst (SoundState P S) (sym start) w))
-
-        pub calls-demand3 : CallsDemand3 P S C m z xs
-        calls-demand3 =
-            let d = demand3 P m xs in
-            let long = from-fresh xs in
-            let short = from-fresh (stepsOf P (shorter P (fresh P m) xs)) in
-            record {
-              none-refused = short .0 ∙ d .none-refused;
-              same-values = λ p. ap (λ (t : PerPort (List (Op P × P .Value))). on t p) (short .1) ∙ d .same-values p ∙ ap (λ (t : PerPort (List (Op P × P .Value))). on t p) (sym (long .1));
-              same-state = short .2 ∙ d .same-state ∙ sym (long .2);
-            }
-
-        -- where the struct holds no more than its state, the very same struct
-        pub calls-same-struct : (back : State P → Kept) → ((y : Kept) → back (seen y) ≡ y) → calls P S C (stepsOf P (shorter P (fresh P m) xs)) z .end ≡ calls P S C xs z .end
-        calls-same-struct back e =
-            let ys = stepsOf P (shorter P (fresh P m) xs) in
-            sym (e (calls P S C ys z .end)) ∙ ap back (calls-demand3 .same-state) ∙ e (calls P S C xs z .end)
+    pub calls-demand3 : (l : Log P Kept) → Ran P M ks z l → CallsDemand3 P M z ks l
+    calls-demand3 l r =
+        let d = demand3 P m (map stepOf ks) in
+        let g = agree r good in
+        let h = long-is l r in
+        record {
+          refusals = g .0;
+          heard = g .1;
+          end = g .2;
+          none-refused = λ l′ r′. short-is l′ r′ .0 ∙ d .none-refused;
+          same-values = λ l′ r′ p.
+              ap (λ (t : PerPort (List (Op P × P .Value))). on t p) (short-is l′ r′ .1) ∙ d .same-values p
+              ∙ ap (λ (t : PerPort (List (Op P × P .Value))). on t p) (sym (h .1));
+          same-state = λ l′ r′. short-is l′ r′ .2 ∙ d .same-state ∙ sym (h .2);
+        }

@@ -12,5 +12,5 @@ pub mod AllSamples
 pub mod Promise
 pub mod Always
 pub mod Work
+pub mod Sound
 pub mod Calls
-pub mod Site

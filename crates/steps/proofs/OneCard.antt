@@ -9,7 +9,7 @@ use Rattle.steps.specs.Answers.{OrRefusal, refused, accepted}
 use Rattle.steps.specs.Module.{Step, fresh}
 use Rattle.steps.specs.Run.{Event, committed, fed, run}
 use Rattle.steps.specs.Gauge.{Gauge, Ports, Meter, new, inForce, latest, waitOver, workedOn, begun, closing, joins, begins, closesBefore, sample, samples, feeds, partsOf}
-use Rattle.steps.specs.OneCard.{Tagged, tagBlock, tagged, Interval, sumsOf, worked, workedAll, firstOf, moreOf, Place, cutIfFull, cutBefore, cutAt, intervals, OneCardHistory, OneCard}
+use Rattle.steps.specs.OneCard.{Tagged, tagBlock, tagged, Interval, gathered, closedWith, closedAll, firstOf, moreOf, Place, cutIfFull, cutBefore, cutAt, intervals, OneCardHistory, OneCard}
 use Rattle.steps.specs.History.{played, play}
 use Rattle.steps.proofs.History.{history-decides}
 
@@ -29,7 +29,7 @@ module _ (G : Gauge) (D : Ports (Meter G) (G .Card)) where
   -- the interval that is open in the meter m is i, begun on the work w
   abbrev Match : Meter G → Work → Option (Interval G) → Type 0
   Match m w none = (m .taken ≡ 0) × (m .work ≡ w)
-  Match m w (some i) = (n : ℕ) × (m .taken ≡ suc n) × (length (i .samples) ≡ suc n) × (m .forced ≡ true) × (m .force ≡ i .card) × (sumsOf G i w ≡ m .work)
+  Match m w (some i) = (n : ℕ) × (m .taken ≡ suc n) × (length (i .samples) ≡ suc n) × (m .forced ≡ true) × (m .force ≡ i .card) × (gathered G i w ≡ m .work)
 
   match-wait : (c : Card) (m : Meter G) (w : Work) (i : Option (Interval G)) → Match m w i → Match (partsOf G D .wait c m) w i
   match-wait c m w none h = h
@@ -43,7 +43,7 @@ module _ (G : Gauge) (D : Ports (Meter G) (G .Card)) where
 
     -- what the rule closes, once a sample has brought the cutting from the work w to a new place
     abbrev rule : Work → Place G × List (Interval G) → List Closed
-    rule w r = workedAll G (r .1 ++ intervals G rest (r .0)) w
+    rule w r = closedAll G (r .1 ++ intervals G rest (r .0)) w
 
     -- what the meter closes, once a sample has brought it to a new state
     abbrev goes : Meter G × List Closed → List Closed
@@ -71,24 +71,24 @@ module _ (G : Gauge) (D : Ports (Meter G) (G .Card)) where
     module _ (ih : Cuts) where
       -- a sample joins an interval, which is then full or not
       joined-goes : (b : Bool) (n : ℕ) (ys : List Sample) (w₀ w : Work) (m : Meter G) →
-          length ys ≡ suc n → sumsOf G (with-card (m .force) ys) w₀ ≡ w → latest G m ≡ some t → m .forced ≡ true →
+          length ys ≡ suc n → gathered G (with-card (m .force) ys) w₀ ≡ w → latest G m ≡ some t → m .forced ≡ true →
           let i = with-card (m .force) ys in
-          goes (cond b (closing G w m) (workedOn G (suc n) w m, [])) ≡ rule w₀ (cond b (place (worked G i w₀ .0) none, i ∷ []) (place w₀ (some i), []))
+          goes (cond b (closing G w m) (workedOn G (suc n) w m, [])) ≡ rule w₀ (cond b (place (closedWith G i w₀ .0) none, i ∷ []) (place w₀ (some i), []))
       joined-goes true n ys w₀ w m l e k f =
           ap (λ (z : List Closed). closeInterval (m .force) w .1 ∷ z) (ih (workedOn G 0 (closeInterval (m .force) w .0) m) (closeInterval (m .force) w .0) none k (refl, refl))
           ∙ ap (λ (z : Work). closeInterval (m .force) z .1 ∷ rule (closeInterval (m .force) z .0) (place (closeInterval (m .force) z .0) none, [])) (sym e)
       joined-goes false n ys w₀ w m l e k f = ih (workedOn G (suc n) w m) w₀ (some (with-card (m .force) ys)) k (n, refl, l, f, refl, e)
 
       joins-goes : (n : ℕ) (ys : List Sample) (w₀ w : Work) (m : Meter G) (x : Sample) →
-          length ys ≡ n → sumsOf G (with-card (m .force) ys) w₀ ≡ w → latest G m ≡ some t → m .forced ≡ true →
+          length ys ≡ n → gathered G (with-card (m .force) ys) w₀ ≡ w → latest G m ≡ some t → m .forced ≡ true →
           goes (joins G n w m x) ≡ rule w₀ (cutIfFull G (with-card (m .force) (ys ++ (x ∷ []))) w₀)
       joins-goes n ys w₀ w m x l e k f =
           let c = m .force in
           let i = with-card c (ys ++ (x ∷ [])) in
           let l′ : length (ys ++ (x ∷ [])) ≡ suc n = length-snoc ys x ∙ ap suc l in
-          let e′ : sumsOf G i w₀ ≡ addSample c w x = foldl-append (addSample c) (startInterval c w₀) ys (x ∷ []) ∙ ap (λ (z : Work). addSample c z x) e in
+          let e′ : gathered G i w₀ ≡ addSample c w x = foldl-append (addSample c) (startInterval c w₀) ys (x ∷ []) ∙ ap (λ (z : Work). addSample c z x) e in
           joined-goes (full c (suc n) (addSample c w x)) n (ys ++ (x ∷ [])) w₀ (addSample c w x) m l′ e′ k f
-          ∙ ap₂ (λ (z : ℕ) (u : Work). rule w₀ (cond (full c z u) (place (worked G i w₀ .0) none, i ∷ []) (place w₀ (some i), []))) (sym l′) (sym e′)
+          ∙ ap₂ (λ (z : ℕ) (u : Work). rule w₀ (cond (full c z u) (place (closedWith G i w₀ .0) none, i ∷ []) (place w₀ (some i), []))) (sym l′) (sym e′)
 
       begins-goes : (m : Meter G) (x : Sample) → latest G m ≡ some t → goes (begins G m x) ≡ rule (m .work) (cutIfFull G (firstOf G (t, x)) (m .work))
       begins-goes m x k =
@@ -99,13 +99,13 @@ module _ (G : Gauge) (D : Ports (Meter G) (G .Card)) where
 
       -- a sample in the middle of an interval, which closes before it or not
       goes-on : (b : Bool) (n : ℕ) (m : Meter G) (i : Interval G) (w₀ : Work) (x : Sample) →
-          length (i .samples) ≡ n → m .forced ≡ true → m .force ≡ i .card → sumsOf G i w₀ ≡ m .work → latest G m ≡ some t →
+          length (i .samples) ≡ n → m .forced ≡ true → m .force ≡ i .card → gathered G i w₀ ≡ m .work → latest G m ≡ some t →
           goes (cond b (closesBefore G m x) (joins G n (m .work) m x)) ≡ rule w₀ (cond b (cutBefore G i w₀ (t, x)) (cutIfFull G (moreOf G i (t, x)) w₀))
       goes-on true n m i w₀ x l f c e k =
           ap (λ (z : List Closed). closeInterval (m .force) (m .work) .1 ∷ z) (begins-goes (workedOn G 0 (closeInterval (m .force) (m .work) .0) m) x k)
           ∙ ap₂ (λ (c : Card) (z : Work). closeInterval c z .1 ∷ rule (closeInterval c z .0) (cutIfFull G (firstOf G (t, x)) (closeInterval c z .0))) c (sym e)
       goes-on false n m i w₀ x l f c e k =
-          joins-goes n (i .samples) w₀ (m .work) m x l (ap (λ (c : Card). sumsOf G (with-card c (i .samples)) w₀) c ∙ e) k f
+          joins-goes n (i .samples) w₀ (m .work) m x l (ap (λ (c : Card). gathered G (with-card c (i .samples)) w₀) c ∙ e) k f
           ∙ ap (λ (c : Card). rule w₀ (cutIfFull G (with-card c (i .samples ++ (x ∷ []))) w₀)) c
 
       sample-goes : (m : Meter G) (w : Work) (i : Option (Interval G)) (x : Sample) → latest G m ≡ some t → Match m w i →
@@ -128,7 +128,7 @@ module _ (G : Gauge) (D : Ports (Meter G) (G .Card)) where
 
   abbrev Rules : List (Event (partsOf G D)) → Type 0
   Rules h = (m : Meter G) (w : Work) (i : Option (Interval G)) (t : Option Card) → latest G m ≡ t → Match m w i →
-      play (partsOf G D) h m ≡ workedAll G (intervals G (tagged G D t h) (place w i)) w
+      play (partsOf G D) h m ≡ closedAll G (intervals G (tagged G D t h) (place w i)) w
 
   rules : (h : List (Event (partsOf G D))) → Rules h
   rules [] m w i t k q = refl
@@ -136,7 +136,7 @@ module _ (G : Gauge) (D : Ports (Meter G) (G .Card)) where
   rules (fed b ∷ h) m w i t k q = rw k (by (samplesOf b) t k (rules h))
     where
       by : (r : OrRefusal (List Sample)) (t : Option Card) → latest G m ≡ t → Rules h →
-          played (partsOf G D) (feeds G r t m) m (play (partsOf G D) h) ≡ workedAll G (intervals G (tagBlock G t r (tagged G D t h)) (place w i)) w
+          played (partsOf G D) (feeds G r t m) m (play (partsOf G D) h) ≡ closedAll G (intervals G (tagBlock G t r (tagged G D t h)) (place w i)) w
       by (refused n) t′ k′ ih = ih m w i t′ k′ q
       by (accepted xs) none k′ ih = ih m w i none k′ q
       by (accepted xs) (some c) k′ ih = cuts c h (λ m′ w′ i′ k″ q′. ih m′ w′ i′ (some c) k″ q′) xs m w i k′ q

@@ -1,11 +1,8 @@
 -- Demand 3, whole, for any measuring core behind any ports.
 use mathlib.Core.Path.{ap}
 use mathlib.Core.List.{List}
-use mathlib.Core.Option.{none}
 use Rattle.steps.specs.Module.{Step, fresh}
-use Rattle.steps.specs.Demand3.{longRun}
 use Rattle.steps.specs.Gauge.{Gauge, Ports, Meter, new, inForce, partsOf}
-use Rattle.steps.specs.OneCard.{tagged, outset}
 use Rattle.steps.specs.Promise.{Promise}
 use Rattle.steps.proofs.Demand3.{demand3}
 use Rattle.steps.proofs.Tidy.{in-order}
@@ -21,5 +18,5 @@ promise G D blank w xs =
       demand3 = d;
       same-card = ap (inForce G) (d .same-meter);
       one-card = one-card G D blank w xs;
-      all-samples = all-samples G (tagged G D none (longRun P (new G blank w) xs .history)) (outset G w);
+      all-samples = all-samples G D blank w xs;
     }

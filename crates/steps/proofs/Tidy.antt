@@ -1,18 +1,30 @@
 -- The shorter sequence is tidy, and its holds, commits and blocks stand in the order in which they were accepted.
-use mathlib.Core.Path.{_≡_, refl, ap, _∙_}
+use mathlib.Core.Path.{_≡_, refl, ap, ap₂, sym, _∙_}
+use mathlib.Core.Bool.{Bool, true, false, cond}
 use mathlib.Core.List.{List, [], _∷_, _++_}
 use mathlib.Core.Option.{Option, none, some}
 use Rattle.steps.specs.Answers.{refused, accepted}
-use Rattle.steps.specs.Port.{Port, port0, port1, on, putOn, onBoth}
+use Rattle.steps.specs.Port.{Port, port0, port1, on, putOn, onBoth, ifSame}
 use Rattle.steps.specs.Parts.{Parts}
 use Rattle.steps.specs.Module.{edit, commit, dropCard, hold, read, Step, atPort, block, State, Outcome, step}
 use Rattle.steps.specs.Shorter.{struckIf, struck, readsAhead, readEach, moved, Fate, staysOpen, willCommit, willDrop, Act, editEach, stepsOf, fate, Drafts, drawnEdit, drawn}
-use Rattle.steps.specs.Tidy.{NoCard, TidyBehind, landmarks, InOrder}
+use Rattle.steps.specs.Tidy.{Accepted, ends, strikes, stays, NoCard, TidyBehind, endsLater, landmarks, InOrder}
 use Rattle.steps.proofs.Outcomes.{zero-one}
 use Rattle.steps.proofs.Cards.{moved-cards, drawn-cards}
 
 module _ (P : Parts) where
-  -- ---- pass 1 strikes out the steps by a port that is not 0 or 1
+  -- ---- pass 1 strikes out what is refused
+
+  struck-by : (x : Step P) (xs : List (Step P)) (s : State P) (o : Outcome P) → step P x s ≡ o → ((t : State P) → Accepted P xs t (struck P xs t)) →
+      Accepted P (x ∷ xs) s (struckIf P o x s (struck P xs))
+  struck-by x xs s (refused n) e ih = strikes e (ih s)
+  struck-by x xs s (accepted r) e ih = stays e (ih (r .1))
+
+  accepted-stay : (xs : List (Step P)) (s : State P) → Accepted P xs s (struck P xs s)
+  accepted-stay [] s = ends
+  accepted-stay (x ∷ xs) s = struck-by x xs s (step P x s) refl (accepted-stay xs)
+
+  -- and with it the steps by a port that is not 0 or 1
 
   abbrev Known : List (Step P) → Type 0
   Known [] = Unit {0}
@@ -106,7 +118,21 @@ module _ (P : Parts) where
   drawn-tidy (atPort (some p) (read a) ∷ r) h b k = (b .0, drawn-tidy r h (b .1) k)
   drawn-tidy (block c ∷ r) h b k = drawn-tidy r none b k
 
-  -- ---- neither pass 2 nor pass 3 moves a hold, a commit or a block
+  -- ---- neither pass 2 nor pass 3 moves a hold, a commit, a block, or what was done on a card still open at the end
+
+  reads-end : (p q : Port) (l : List (P .Address)) (r : List (Step P)) → endsLater P p (readEach P q l r) ≡ endsLater P p r
+  reads-end p q [] r = refl
+  reads-end p q (a ∷ l) r = reads-end p q l r
+
+  moved-ends : (xs : List (Step P)) (p : Port) → endsLater P p (moved P xs) ≡ endsLater P p xs
+  moved-ends [] p = refl
+  moved-ends (atPort none op ∷ r) p = moved-ends r p
+  moved-ends (atPort (some q) (edit e) ∷ r) p = moved-ends r p
+  moved-ends (atPort (some q) commit ∷ r) p = ap (ifSame p q true) (moved-ends r p)
+  moved-ends (atPort (some q) dropCard ∷ r) p = ap (ifSame p q true) (moved-ends r p)
+  moved-ends (atPort (some q) (hold k) ∷ r) p = reads-end p q (readsAhead P q r) (moved P r) ∙ moved-ends r p
+  moved-ends (atPort (some q) (read a) ∷ r) p = moved-ends r p
+  moved-ends (block b ∷ r) p = moved-ends r p
 
   reads-aside : (p : Port) (l : List (P .Address)) (r : List (Step P)) → landmarks P (readEach P p l r) ≡ landmarks P r
   reads-aside p [] r = refl
@@ -115,29 +141,88 @@ module _ (P : Parts) where
   moved-in-place : (xs : List (Step P)) → landmarks P (moved P xs) ≡ landmarks P xs
   moved-in-place [] = refl
   moved-in-place (atPort none op ∷ r) = moved-in-place r
-  moved-in-place (atPort (some p) (edit e) ∷ r) = moved-in-place r
+  moved-in-place (atPort (some p) (edit e) ∷ r) = ap₂ (λ (b : Bool) (l : List (Step P)). cond b l (atPort (some p) (edit e) ∷ l)) (moved-ends r p) (moved-in-place r)
   moved-in-place (atPort (some p) commit ∷ r) = ap (λ (l : List (Step P)). atPort (some p) commit ∷ l) (moved-in-place r)
   moved-in-place (atPort (some p) dropCard ∷ r) = moved-in-place r
   moved-in-place (atPort (some p) (hold k) ∷ r) = ap (λ (l : List (Step P)). atPort (some p) (hold k) ∷ l) (reads-aside p (readsAhead P p r) (moved P r) ∙ moved-in-place r)
   moved-in-place (atPort (some p) (read a) ∷ r) = moved-in-place r
   moved-in-place (block b ∷ r) = ap (λ (l : List (Step P)). block b ∷ l) (moved-in-place r)
 
-  edits-aside : (p : Port) (es : List (P .Edit)) (r : List (Step P)) → landmarks P (editEach P p es r) ≡ landmarks P r
-  edits-aside p [] r = refl
-  edits-aside p (e ∷ es) r = edits-aside p es r
+  -- a card that is committed or dropped has that fate
+  abbrev ended : Fate → Bool
+  ended staysOpen = false
+  ended willCommit = true
+  ended willDrop = true
 
-  edit-in-place : (p : Port) (e : P .Edit) (f : Fate) (go : Drafts P → List (Act P)) (l : List (Step P)) → ((k : Drafts P) → landmarks P (stepsOf P (go k)) ≡ l) →
-      (k : Drafts P) → landmarks P (stepsOf P (drawnEdit P f p e go k)) ≡ l
-  edit-in-place p e staysOpen go l ih k = ih k
-  edit-in-place p e willCommit go l ih k = ih (putOn p (on k p ++ (e ∷ [])) k)
-  edit-in-place p e willDrop go l ih k = ih k
+  fate-ends : (xs : List (Step P)) (p : Port) → endsLater P p xs ≡ ended (fate P p xs)
+  fate-ends [] p = refl
+  fate-ends (atPort none op ∷ r) p = fate-ends r p
+  fate-ends (atPort (some q) (edit e) ∷ r) p = fate-ends r p
+  fate-ends (atPort (some port0) commit ∷ r) port0 = refl
+  fate-ends (atPort (some port0) commit ∷ r) port1 = fate-ends r port1
+  fate-ends (atPort (some port1) commit ∷ r) port0 = fate-ends r port0
+  fate-ends (atPort (some port1) commit ∷ r) port1 = refl
+  fate-ends (atPort (some port0) dropCard ∷ r) port0 = refl
+  fate-ends (atPort (some port0) dropCard ∷ r) port1 = fate-ends r port1
+  fate-ends (atPort (some port1) dropCard ∷ r) port0 = fate-ends r port0
+  fate-ends (atPort (some port1) dropCard ∷ r) port1 = refl
+  fate-ends (atPort (some q) (hold k) ∷ r) p = fate-ends r p
+  fate-ends (atPort (some q) (read a) ∷ r) p = fate-ends r p
+  fate-ends (block b ∷ r) p = fate-ends r p
+
+  -- a card is drawn into one act: its edits stand before its commit
+  edits-end : (p q : Port) (es : List (P .Edit)) (r : List (Step P)) → endsLater P p (editEach P q es r) ≡ endsLater P p r
+  edits-end p q [] r = refl
+  edits-end p q (e ∷ es) r = edits-end p q es r
+
+  commit-ends : (p : Port) (r : List (Step P)) → endsLater P p (atPort (some p) commit ∷ r) ≡ true
+  commit-ends port0 r = refl
+  commit-ends port1 r = refl
+
+  edits-aside : (p : Port) (es : List (P .Edit)) (r : List (Step P)) → endsLater P p r ≡ true → landmarks P (editEach P p es r) ≡ landmarks P r
+  edits-aside p [] r h = refl
+  edits-aside p (e ∷ es) r h =
+      let l = landmarks P (editEach P p es r) in
+      ap (λ (b : Bool). cond b l (atPort (some p) (edit e) ∷ l)) (edits-end p p es r ∙ h) ∙ edits-aside p es r h
+
+  -- where a port has no commit and no drop to come, pass 3 brings none
+  edit-open : (p q : Port) (e : P .Edit) (f : Fate) (go : Drafts P → List (Act P)) → ((k : Drafts P) → endsLater P p (stepsOf P (go k)) ≡ false) →
+      (k : Drafts P) → endsLater P p (stepsOf P (drawnEdit P f q e go k)) ≡ false
+  edit-open p q e staysOpen go ih k = ih k
+  edit-open p q e willCommit go ih k = ih (putOn q (on k q ++ (e ∷ [])) k)
+  edit-open p q e willDrop go ih k = ih k
+
+  drawn-open : (xs : List (Step P)) (p : Port) → fate P p xs ≡ staysOpen → (k : Drafts P) → endsLater P p (stepsOf P (drawn P xs k)) ≡ false
+  drawn-open [] p f k = refl
+  drawn-open (atPort none op ∷ r) p f k = drawn-open r p f k
+  drawn-open (atPort (some q) (edit e) ∷ r) p f k = edit-open p q e (fate P q r) (drawn P r) (drawn-open r p f) k
+  drawn-open (atPort (some port0) commit ∷ r) port0 f k = zero-one cc
+  drawn-open (atPort (some port0) commit ∷ r) port1 f k = edits-end port1 port0 (k .on0) (atPort (some port0) commit ∷ stepsOf P (drawn P r (putOn port0 [] k))) ∙ drawn-open r port1 f (putOn port0 [] k)
+  drawn-open (atPort (some port1) commit ∷ r) port0 f k = edits-end port0 port1 (k .on1) (atPort (some port1) commit ∷ stepsOf P (drawn P r (putOn port1 [] k))) ∙ drawn-open r port0 f (putOn port1 [] k)
+  drawn-open (atPort (some port1) commit ∷ r) port1 f k = zero-one cc
+  drawn-open (atPort (some port0) dropCard ∷ r) port0 f k = zero-one cc
+  drawn-open (atPort (some port0) dropCard ∷ r) port1 f k = drawn-open r port1 f (putOn port0 [] k)
+  drawn-open (atPort (some port1) dropCard ∷ r) port0 f k = drawn-open r port0 f (putOn port1 [] k)
+  drawn-open (atPort (some port1) dropCard ∷ r) port1 f k = zero-one cc
+  drawn-open (atPort (some q) (hold t) ∷ r) p f k = drawn-open r p f k
+  drawn-open (atPort (some q) (read a) ∷ r) p f k = drawn-open r p f k
+  drawn-open (block b ∷ r) p f k = drawn-open r p f k
+
+  edit-in-place : (p : Port) (e : P .Edit) (r : List (Step P)) (f : Fate) → fate P p r ≡ f → ((k : Drafts P) → landmarks P (stepsOf P (drawn P r k)) ≡ landmarks P r) →
+      (k : Drafts P) → landmarks P (stepsOf P (drawnEdit P f p e (drawn P r) k)) ≡ cond (ended f) (landmarks P r) (atPort (some p) (edit e) ∷ landmarks P r)
+  edit-in-place p e r staysOpen q ih k =
+      ap₂ (λ (b : Bool) (l : List (Step P)). cond b l (atPort (some p) (edit e) ∷ l)) (drawn-open r p q k) (ih k)
+  edit-in-place p e r willCommit q ih k = ih (putOn p (on k p ++ (e ∷ [])) k)
+  edit-in-place p e r willDrop q ih k = ih k
 
   drawn-in-place : (xs : List (Step P)) (k : Drafts P) → landmarks P (stepsOf P (drawn P xs k)) ≡ landmarks P xs
   drawn-in-place [] k = refl
   drawn-in-place (atPort none op ∷ r) k = drawn-in-place r k
-  drawn-in-place (atPort (some p) (edit e) ∷ r) k = edit-in-place p e (fate P p r) (drawn P r) (landmarks P r) (drawn-in-place r) k
+  drawn-in-place (atPort (some p) (edit e) ∷ r) k =
+      edit-in-place p e r (fate P p r) refl (drawn-in-place r) k
+      ∙ ap (λ (b : Bool). cond b (landmarks P r) (atPort (some p) (edit e) ∷ landmarks P r)) (sym (fate-ends r p))
   drawn-in-place (atPort (some p) commit ∷ r) k =
-      edits-aside p (on k p) (atPort (some p) commit ∷ stepsOf P (drawn P r (putOn p [] k)))
+      edits-aside p (on k p) (atPort (some p) commit ∷ stepsOf P (drawn P r (putOn p [] k))) (commit-ends p (stepsOf P (drawn P r (putOn p [] k))))
       ∙ ap (λ (l : List (Step P)). atPort (some p) commit ∷ l) (drawn-in-place r (putOn p [] k))
   drawn-in-place (atPort (some p) dropCard ∷ r) k = drawn-in-place r (putOn p [] k)
   drawn-in-place (atPort (some p) (hold t) ∷ r) k = ap (λ (l : List (Step P)). atPort (some p) (hold t) ∷ l) (drawn-in-place r k)
@@ -148,6 +233,7 @@ module _ (P : Parts) where
   in-order s xs =
       let ys = struck P xs s in
       record {
+        accepted-stay = accepted-stay xs s;
         tidy = drawn-tidy (moved P ys) none (moved-behind ys (known xs s)) (onBoth []);
         in-place = drawn-in-place (moved P ys) (onBoth []) ∙ moved-in-place ys;
         same-cards = λ p. drawn-cards P (moved P ys) p ∙ moved-cards P ys p [];

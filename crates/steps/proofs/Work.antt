@@ -1,4 +1,5 @@
--- What an interval's start, each sample and each close keep holds at the end of every sequence of steps.
+-- What an interval's start, each sample and each close keep holds at the end of every sequence of steps: for the rules over the whole
+-- history of closes, as the energy rule. To use: make a `LastingWork`, and cite `always-work`.
 use Prim.Native.Nat.{ℕ, zero, suc}
 use mathlib.Core.Path.{_≡_, sym, subst}
 use mathlib.Core.Bool.{Bool, true, false, cond}
@@ -7,10 +8,16 @@ use mathlib.Core.Option.{Option, none, some}
 use Rattle.steps.specs.Answers.{OrRefusal, refused, accepted}
 use Rattle.steps.specs.Module.{Step, State}
 use Rattle.steps.specs.Gauge.{Gauge, Ports, Meter, latest, waitOver, workedOn, begun, closing, joins, begins, closesBefore, sample, samples, feeds, partsOf}
-use Rattle.steps.specs.Always.{Lasting}
-use Rattle.steps.specs.Work.{LastingWork, AlwaysWork}
+use Rattle.steps.specs.Run.{run}
 use Rattle.steps.proofs.Outcomes.{refused-never, accepted-is}
-use Rattle.steps.proofs.Always.{always}
+use Rattle.steps.proofs.Always.{Lasting, always}
+
+-- a fact about the work and the intervals closed so far, which an interval's start, each sample and each close keep
+pub record LastingWork (G : Gauge) : Type 1 where
+  pub Of : G .Work → List (G .Closed) → Type 0
+  pub on-start : (c : G .Card) (w : G .Work) (h : List (G .Closed)) → Of w h → Of (G .startInterval c w) h
+  pub on-add : (c : G .Card) (w : G .Work) (x : G .Sample) (h : List (G .Closed)) → Of w h → Of (G .addSample c w x) h
+  pub on-close : (c : G .Card) (w : G .Work) (h : List (G .Closed)) → Of w h → Of (G .closeInterval c w .0) (h ++ (G .closeInterval c w .1 ∷ []))
 
 module _ (G : Gauge) (L : LastingWork G) where
   open Gauge G using (Card, Sample, Work, Closed, startInterval, addSample, breaks, full, closeInterval)
@@ -72,6 +79,7 @@ module _ (G : Gauge) (L : LastingWork G) where
     on-feed = λ m h b r e i. feeds-keep (G .samplesOf b) (latest G m) m h r e i;
   }
 
-  pub always-work : (D : Ports (Meter G) Card) (s : State (partsOf G D)) (xs : List (Step (partsOf G D))) → AlwaysWork G L D s xs
+  pub always-work : (D : Ports (Meter G) Card) (s : State (partsOf G D)) (xs : List (Step (partsOf G D))) →
+      Of (s .meter .work) [] → Of (run (partsOf G D) xs s .end .meter .work) (run (partsOf G D) xs s .closed)
   unfolding lasting
   always-work D s xs i = always (partsOf G D) (lasting D) s xs i

@@ -1,15 +1,13 @@
--- From the calls of a program to a run: code that keeps a struct and has a method for each step. To use: make a `Sound`, which says
--- what holds of every meter, card and desk that the steps make; make a `Code`, whose laws are the methods' contracts; and cite
--- `calls-run`, `calls-demand3`, `calls-same-struct` and `always-sound`.
+-- Programs of calls: code that keeps a struct and has a method for each step. What a method's contract allows is left open (`Methods`).
 use Prim.Native.Nat.{ℕ, suc}
 use mathlib.Core.Path.{_≡_}
-use mathlib.Core.List.{List, [], _∷_}
+use mathlib.Core.List.{List, [], _∷_, map}
 use mathlib.Core.Option.{none, some}
 use Rattle.steps.specs.Answers.{refused, accepted}
 use Rattle.steps.specs.Port.{Port, PerPort, on, putOn, onBoth}
 use Rattle.steps.specs.Parts.{Parts}
-use Rattle.steps.specs.Module.{Op, Step, atPort, block, State, fresh, Report, silent, commits, tells, closes, Outcome, step}
-use Rattle.steps.specs.Run.{run}
+use Rattle.steps.specs.Module.{Op, Step, atPort, block, State, Report, silent, commits, tells, closes, Outcome}
+use Rattle.steps.specs.Run.{Run, run}
 use Rattle.steps.specs.Shorter.{stepsOf, shorter}
 
 module _ (P : Parts) where
@@ -36,63 +34,62 @@ module _ (P : Parts) where
   after (refused n) s = s
   after (accepted r) s = r .1
 
-  -- ---- states that the steps make
+  -- ---- code
 
-  pub record Sound : Type 1 where
-    pub OfMeter : P .Meter → Type 0
-    pub OfCard : P .Card → Type 0
-    pub OfDesk : P .Desk → Type 0
-    pub shut-sound : OfDesk (P .shut)
-    pub edited-sound : (d : P .Desk) (e : P .Edit) (d′ : P .Desk) → OfDesk d → P .edited d e ≡ accepted d′ → OfDesk d′
-    pub finished-sound : (d : P .Desk) (c : P .Card) → OfDesk d → P .finished d ≡ accepted c → OfCard c
-    pub wait-sound : (c : P .Card) (m : P .Meter) → OfCard c → OfMeter m → OfMeter (P .wait c m)
-    pub feed-sound : (m : P .Meter) (b : P .Block) (r : P .Meter × List (P .Closed)) → OfMeter m → P .feed m b ≡ accepted r → OfMeter (r .0)
+  pub record Methods : Type 1 where
+    pub Kept : Type 0  -- the struct that the code keeps
+    pub stateOf : Kept → State P  -- the state that it stands for
+    pub Call : Type 0  -- a call of a method, with its arguments
+    pub stepOf : Call → Step P  -- the step that it asks for
+    pub callOf : Step P → Call  -- a call that asks for this step
+    pub Allows : Call → Kept → Reply × Kept → Type 0  -- what the method's contract allows: a reply, and the struct after it
 
-  module _ (S : Sound) where
-    pub record SoundState (s : State P) : Type 0 where
-      pub meter : S .OfMeter (s .meter)
-      pub desks : (p : Port) → S .OfDesk (on (s .desks) p)
+  -- ---- calls, one after the other, each with the struct that the one before returned
 
-    -- ---- code
+  -- what is noted of them; `Kept` is the struct
+  pub record Log (Kept : Type 0) : Type 0 where
+    pub refusals : ℕ  -- how many were refused
+    pub heard : PerPort (List (Op P × P .Value))  -- each port's holds and reads with the values that they returned
+    pub end : Kept
 
-    pub record Code : Type 1 where
-      pub Kept : Type 0  -- the struct that the code keeps
-      pub seen : Kept → State P  -- the state that it stands for
-      pub call : Step P → Kept → Reply × Kept  -- what the step's method returns by its contract: the reply, and the struct after it
-      pub replies : (x : Step P) (k : Kept) → SoundState (seen k) → call x k .0 ≡ reply (step P x (seen k))
-      pub leaves : (x : Step P) (k : Kept) → SoundState (seen k) → seen (call x k .1) ≡ after (step P x (seen k)) (seen k)
+  module _ (Kept : Type 0) where
+    abbrev pub noneCalled : Kept → Log Kept
+    noneCalled m = record { refusals = 0; heard = onBoth []; end = m }
 
-    -- ---- calls, one after the other
+    -- (only a hold or a read at a port returns a value: the last two cases do not occur)
+    abbrev pub noted : Step P → Reply → Log Kept → Log Kept
+    noted x (refuses n) l = record { refusals = suc (l .refusals); heard = l .heard; end = l .end }
+    noted x done l = l
+    noted (atPort (some p) op) (returns v) l = record { refusals = l .refusals; heard = putOn p ((op, v) ∷ on (l .heard) p) (l .heard); end = l .end }
+    noted (atPort none op) (returns v) l = l
+    noted (block b) (returns v) l = l
 
-    module _ (C : Code) where
-      open Code C using (Kept, seen, call)
+  module _ (M : Methods) where
+    open Methods M using (Kept, stateOf, Call, stepOf, callOf, Allows)
 
-      pub record Log : Type 0 where
-        pub refusals : ℕ
-        pub heard : PerPort (List (Op P × P .Value))  -- each port's holds and reads with the values that they returned
-        pub end : Kept
+    pub data Ran : List Call → Kept → Log Kept → Type 0 where
+      ended : {m : Kept} → Ran [] m (noneCalled Kept m)
+      called : {k : Call} {ks : List Call} {m : Kept} {o : Reply × Kept} {l : Log Kept} → Allows k m o → Ran ks (o .1) l → Ran (k ∷ ks) m (noted Kept (stepOf k) (o .0) l)
 
-      -- (only a hold or a read at a port returns a value: the last two cases do not occur)
-      abbrev pub noted : Step P → Reply → Log → Log
-      noted x (refuses n) l = record { refusals = suc (l .refusals); heard = l .heard; end = l .end }
-      noted x done l = l
-      noted (atPort (some p) op) (returns v) l = record { refusals = l .refusals; heard = putOn p ((op, v) ∷ on (l .heard) p) (l .heard); end = l .end }
-      noted (atPort none op) (returns v) l = l
-      noted (block b) (returns v) l = l
+    module _ (z : Kept) (ks : List Call) where
+      -- the steps that the calls ask for, and what comes of them, with the list of all closed intervals
+      abbrev pub asked : List (Step P)
+      asked = map stepOf ks
 
-      abbrev pub calls : List (Step P) → Kept → Log
-      calls [] k = record { refusals = 0; heard = onBoth []; end = k }
-      calls (x ∷ xs) k = let r = call x k in noted x (r .0) (calls xs (r .1))
+      abbrev pub runOf : Run P
+      runOf = run P asked (stateOf z)
 
-      -- the calls do what the run does
-      pub record CallsRun (xs : List (Step P)) (k : Kept) : Type 0 where
-        pub refusals : calls xs k .refusals ≡ run P xs (seen k) .refusals
-        pub heard : calls xs k .heard ≡ run P xs (seen k) .heard
-        pub end : seen (calls xs k .end) ≡ run P xs (seen k) .end
+      -- the calls of the shorter sequence
+      abbrev pub shorterCalls : List Call
+      shorterCalls = map callOf (stepsOf P (shorter P (stateOf z) asked))
 
-      -- demand 3 of the calls, from a fresh module z
-      pub record CallsDemand3 (m : P .Meter) (z : Kept) (xs : List (Step P)) : Type 0 where
-        -- none is refused, every hold and read returns the same, and the struct is left in the same state
-        pub none-refused : calls (stepsOf P (shorter P (fresh P m) xs)) z .refusals ≡ 0
-        pub same-values : (p : Port) → on (calls (stepsOf P (shorter P (fresh P m) xs)) z .heard) p ≡ on (calls xs z .heard) p
-        pub same-state : seen (calls (stepsOf P (shorter P (fresh P m) xs)) z .end) ≡ seen (calls xs z .end)
+      -- demand 3 of the calls ks from a fresh module z, with the log l
+      pub record CallsDemand3 (l : Log Kept) : Type 0 where
+        -- the calls do what the run does
+        pub refusals : l .refusals ≡ runOf .refusals
+        pub heard : l .heard ≡ runOf .heard
+        pub end : stateOf (l .end) ≡ runOf .end
+        -- of the shorter sequence no call is refused, every hold and read returns the same, and the struct is left in the same state
+        pub none-refused : (short : Log Kept) → Ran shorterCalls z short → short .refusals ≡ 0
+        pub same-values : (short : Log Kept) → Ran shorterCalls z short → (p : Port) → on (short .heard) p ≡ on (l .heard) p
+        pub same-state : (short : Log Kept) → Ran shorterCalls z short → stateOf (short .end) ≡ stateOf (l .end)

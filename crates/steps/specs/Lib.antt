@@ -11,8 +11,4 @@ pub mod History
 pub mod Gauge
 pub mod OneCard
 pub mod Promise
-pub mod Always
-pub mod Work
 pub mod Calls
-pub mod Site
-pub mod Day

@@ -6,8 +6,9 @@ use mathlib.Core.List.{List, [], _∷_, _++_, map, foldl}
 use mathlib.Core.Option.{Option, none, some}
 use lib.ListN.{length}
 use Rattle.steps.specs.Answers.{OrRefusal, refused, accepted}
-use Rattle.steps.specs.Module.{Step, fresh}
+use Rattle.steps.specs.Module.{Step, atPort, block, fresh}
 use Rattle.steps.specs.Run.{Event, committed, fed, run}
+use Rattle.steps.specs.Shorter.{struck}
 use Rattle.steps.specs.History.{play}
 use Rattle.steps.specs.Gauge.{Gauge, Ports, Meter, new, partsOf}
 
@@ -36,15 +37,15 @@ module _ (G : Gauge) where
     pub samples : List Sample
 
   -- its sums; w is what the intervals before it left
-  abbrev pub sumsOf : Interval → Work → Work
-  sumsOf i w = foldl (addSample (i .card)) (startInterval (i .card) w) (i .samples)
+  abbrev pub gathered : Interval → Work → Work
+  gathered i w = foldl (addSample (i .card)) (startInterval (i .card) w) (i .samples)
 
-  abbrev pub worked : Interval → Work → Work × Closed
-  worked i w = closeInterval (i .card) (sumsOf i w)
+  abbrev pub closedWith : Interval → Work → Work × Closed
+  closedWith i w = closeInterval (i .card) (gathered i w)
 
-  abbrev pub workedAll : List Interval → Work → List Closed
-  workedAll [] w = []
-  workedAll (i ∷ is) w = let r = worked i w in r .1 ∷ workedAll is (r .0)
+  abbrev pub closedAll : List Interval → Work → List Closed
+  closedAll [] w = []
+  closedAll (i ∷ is) w = let r = closedWith i w in r .1 ∷ closedAll is (r .0)
 
   -- ---- The samples are cut into intervals; the card of an interval is that of its first sample.
 
@@ -62,16 +63,16 @@ module _ (G : Gauge) where
   -- the interval i is closed if it is full, and is else the one that is open
   abbrev pub cutIfFull : Interval → Work → Place × List Interval
   cutIfFull i w =
-      cond (full (i .card) (length (i .samples)) (sumsOf i w))
-      (record { left = worked i w .0; running = none }, i ∷ [])
+      cond (full (i .card) (length (i .samples)) (gathered i w))
+      (record { left = closedWith i w .0; running = none }, i ∷ [])
       (record { left = w; running = some i }, [])
 
   abbrev pub cutBefore : Interval → Work → Tagged → Place × List Interval
-  cutBefore i w t = let r = cutIfFull (firstOf t) (worked i w .0) in (r .0, i ∷ r .1)
+  cutBefore i w t = let r = cutIfFull (firstOf t) (closedWith i w .0) in (r .0, i ∷ r .1)
 
   abbrev pub cutAt : Option Interval → Work → Tagged → Place × List Interval
   cutAt none w t = cutIfFull (firstOf t) w
-  cutAt (some i) w t = cond (breaks (i .card) (length (i .samples)) (sumsOf i w) (t .1)) (cutBefore i w t) (cutIfFull (moreOf i t) w)
+  cutAt (some i) w t = cond (breaks (i .card) (length (i .samples)) (gathered i w) (t .1)) (cutBefore i w t) (cutIfFull (moreOf i t) w)
 
   -- the closed intervals
   abbrev pub intervals : List Tagged → Place → List Interval
@@ -85,18 +86,19 @@ module _ (G : Gauge) where
   -- ---- So it is, for every history and for every sequence of steps from a fresh module.
 
   abbrev pub OneCardHistory : (D : Ports (Meter G) Card) → Card → Work → List (Event (partsOf G D)) → Type 0
-  OneCardHistory D blank w h = play (partsOf G D) h (new G blank w) ≡ workedAll (intervals (tagged D none h) (outset w)) w
+  OneCardHistory D blank w h = play (partsOf G D) h (new G blank w) ≡ closedAll (intervals (tagged D none h) (outset w)) w
 
   abbrev pub OneCard : (D : Ports (Meter G) Card) → Card → Work → List (Step (partsOf G D)) → Type 0
   OneCard D blank w xs =
       let r = run (partsOf G D) xs (fresh (partsOf G D) (new G blank w)) in
-      r .closed ≡ workedAll (intervals (tagged D none (r .history)) (outset w)) w
+      r .closed ≡ closedAll (intervals (tagged D none (r .history)) (outset w)) w
 
-  -- ---- No sample is lost and none is taken twice: those of the closed intervals and of the one that is open are all, in their order.
+  -- ---- No sample is lost and none is taken twice: those of the closed intervals and of the one that is open are the samples of all
+  -- accepted blocks, in their order.
 
-  abbrev pub samplesIn : List Interval → List Sample
-  samplesIn [] = []
-  samplesIn (i ∷ is) = i .samples ++ samplesIn is
+  abbrev pub samplesOfAll : List Interval → List Sample
+  samplesOfAll [] = []
+  samplesOfAll (i ∷ is) = i .samples ++ samplesOfAll is
 
   abbrev pub stillOpen : Option Interval → List Sample
   stillOpen none = []
@@ -106,5 +108,19 @@ module _ (G : Gauge) where
   placeAfter [] p = p
   placeAfter (t ∷ ts) p = placeAfter ts (cutAt (p .running) (p .left) t .0)
 
-  abbrev pub AllSamples : List Tagged → Place → Type 0
-  AllSamples ts p = samplesIn (intervals ts p) ++ stillOpen (placeAfter ts p .running) ≡ stillOpen (p .running) ++ map (λ (t : Tagged). t .1) ts
+  -- the samples of a block; one that is not well formed is refused and has none
+  abbrev pub blockSamples : OrRefusal (List Sample) → List Sample
+  blockSamples (refused n) = []
+  blockSamples (accepted xs) = xs
+
+  -- the samples of the blocks among these steps
+  abbrev pub samplesFed : (D : Ports (Meter G) Card) → List (Step (partsOf G D)) → List Sample
+  samplesFed D [] = []
+  samplesFed D (block b ∷ r) = blockSamples (samplesOf b) ++ samplesFed D r
+  samplesFed D (atPort o op ∷ r) = samplesFed D r
+
+  abbrev pub AllSamples : (D : Ports (Meter G) Card) → Card → Work → List (Step (partsOf G D)) → Type 0
+  AllSamples D blank w xs =
+      let s = fresh (partsOf G D) (new G blank w) in
+      let ts = tagged D none (run (partsOf G D) xs s .history) in
+      samplesOfAll (intervals ts (outset w)) ++ stillOpen (placeAfter ts (outset w) .running) ≡ samplesFed D (struck (partsOf G D) xs s)

@@ -1,14 +1,25 @@
--- How the shorter sequence looks, and that nothing else was touched: laws that tie `shorter` to demand 3's words. They say what the
--- second and third pass come to; which steps the first strikes out, and that a card still open keeps its place, is for `Shorter` to say.
+-- How the shorter sequence looks, and that nothing else was touched: laws that tie `shorter` to demand 3's words, pass by pass.
+use Prim.Native.Nat.{ℕ}
 use mathlib.Core.Path.{_≡_}
+use mathlib.Core.Bool.{Bool, true, false, cond}
 use mathlib.Core.List.{List, [], _∷_, _++_}
 use mathlib.Core.Option.{Option, none, some}
+use Rattle.steps.specs.Answers.{refused, accepted}
 use Rattle.steps.specs.Port.{Port, ifSame}
 use Rattle.steps.specs.Parts.{Parts}
-use Rattle.steps.specs.Module.{edit, commit, dropCard, hold, read, Step, atPort, block, State}
+use Rattle.steps.specs.Module.{edit, commit, dropCard, hold, read, Step, atPort, block, State, Report, step}
 use Rattle.steps.specs.Shorter.{struck, Act, plain, card, stepsOf, shorter}
 
 module _ (P : Parts) where
+  -- ---- the first pass: the steps that are refused in their turn are struck out, and every other stays, an overwritten write too
+
+  pub data Accepted : List (Step P) → State P → List (Step P) → Type 0 where
+    ends : {s : State P} → Accepted [] s []
+    strikes : {x : Step P} {xs ys : List (Step P)} {s : State P} {n : ℕ} → step P x s ≡ refused n → Accepted xs s ys → Accepted (x ∷ xs) s ys
+    stays : {x : Step P} {xs ys : List (Step P)} {s : State P} {r : Report P × State P} → step P x s ≡ accepted r → Accepted xs (r .1) ys → Accepted (x ∷ xs) s (x ∷ ys)
+
+  -- ---- the second and the third
+
   -- port p commits no card any more
   abbrev pub NoCard : Port → List (Act P) → Type 0
   NoCard p [] = Unit {0}
@@ -31,12 +42,23 @@ module _ (P : Parts) where
   abbrev pub Tidy : List (Act P) → Type 0
   Tidy acts = TidyBehind none acts
 
-  -- the holds, the commits and the blocks of a sequence, in their order
+  -- the card that port p has open is committed or dropped by the steps to come
+  abbrev pub endsLater : Port → List (Step P) → Bool
+  endsLater p [] = false
+  endsLater p (block b ∷ r) = endsLater p r
+  endsLater p (atPort none op ∷ r) = endsLater p r
+  endsLater p (atPort (some q) (edit e) ∷ r) = endsLater p r
+  endsLater p (atPort (some q) commit ∷ r) = ifSame p q true (endsLater p r)
+  endsLater p (atPort (some q) dropCard ∷ r) = ifSame p q true (endsLater p r)
+  endsLater p (atPort (some q) (hold k) ∷ r) = endsLater p r
+  endsLater p (atPort (some q) (read a) ∷ r) = endsLater p r
+
+  -- the holds, the commits and the blocks of a sequence, and the opening and writing of a card still open at the end, in their order
   abbrev pub landmarks : List (Step P) → List (Step P)
   landmarks [] = []
   landmarks (block b ∷ r) = block b ∷ landmarks r
   landmarks (atPort none op ∷ r) = landmarks r
-  landmarks (atPort (some p) (edit e) ∷ r) = landmarks r
+  landmarks (atPort (some p) (edit e) ∷ r) = cond (endsLater p r) (landmarks r) (atPort (some p) (edit e) ∷ landmarks r)
   landmarks (atPort (some p) commit ∷ r) = atPort (some p) commit ∷ landmarks r
   landmarks (atPort (some p) dropCard ∷ r) = landmarks r
   landmarks (atPort (some p) (hold k) ∷ r) = atPort (some p) (hold k) ∷ landmarks r
@@ -54,9 +76,11 @@ module _ (P : Parts) where
   cards p (atPort (some q) (hold k) ∷ r) es = cards p r es
   cards p (atPort (some q) (read a) ∷ r) es = cards p r es
 
-  -- From any state, fresh or not: the shorter sequence is tidy; its holds, commits and blocks are the accepted ones in their order; and
-  -- its cards are opened and written as they were.
+  -- From any state, fresh or not: what is struck out is what is refused; the shorter sequence is tidy; its holds, commits and blocks are
+  -- the accepted ones in their order, and between them a card still open keeps its open and its writes where they stand; and its cards
+  -- are opened and written as they were, each write in its place.
   pub record InOrder (s : State P) (xs : List (Step P)) : Type 0 where
+    pub accepted-stay : Accepted xs s (struck P xs s)
     pub tidy : Tidy (shorter P s xs)
     pub in-place : landmarks (stepsOf P (shorter P s xs)) ≡ landmarks (struck P xs s)
     pub same-cards : (p : Port) → cards p (stepsOf P (shorter P s xs)) [] ≡ cards p (struck P xs s) []
