@@ -1,4 +1,7 @@
 -- Laws of samples.
 pub mod Corrections
 pub mod Ranges
+pub mod Rooms
+pub mod Slices
+pub mod Tests
 pub mod Decided

@@ -2,3 +2,4 @@
 pub mod Fields
 pub mod Sample
 pub mod Sums
+pub mod Inside

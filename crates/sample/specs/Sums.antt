@@ -1,12 +1,16 @@
 -- What is kept of the running interval's samples, one sample after another.
-use Prim.Native.Nat.{ℕ, _+_, max}
-use mathlib.Core.Bool.{Bool, true, false, cond}
+use Prim.Native.Nat.{ℕ, _+_, _*_, _^_, max}
+use mathlib.Core.Bool.{Bool, true, false, cond, _&&_}
 use mathlib.Core.List.{List, [], _∷_}
+use lib.Dec.{eqb, leb}
 use lib.IntN.{ℤ, pos, natAbs, _+ℤ_, _*ℤ_}
+use lib.ListN.{length}
 use Rattle.number.specs.Sign.{squareOf}
 use Rattle.card.specs.declared.Card.{Card}
+use Rattle.card.specs.Fields.{fieldInRange}
 use Rattle.sample.specs.declared.Flow.{Flow}
 use Rattle.sample.specs.declared.Sums.{Sums}
+use Rattle.sample.specs.Fields.{field}
 use Rattle.sample.specs.Sample.{voltage, phased}
 
 -- a sample of corrected voltage v and of current i, corrected and mixed, joins the sums of a current source
@@ -29,6 +33,12 @@ added c s v i = summed s (voltage c v) (phased c i (previous s i)) i
 abbrev pub Sample : Type 0
 Sample = ℤ × ℤ
 
+-- the samples of two slices: a voltage and a current each
+unfoldable pub samplesIn : List ℤ → List ℤ → List Sample
+samplesIn [] is = []
+samplesIn (v ∷ vs) [] = []
+samplesIn (v ∷ vs) (i ∷ is) = (v, i) ∷ samplesIn vs is
+
 -- samples, one after another
 unfoldable pub addedAll : Card → Sums → List Sample → Sums
 addedAll c s [] = s
@@ -45,3 +55,22 @@ emptied s = record { vv = 0; flow = noFlow; seen = s .seen; raw = s .raw }
 -- before the module's first sample
 abbrev pub noSums : Sums
 noSums = record { vv = 0; flow = noFlow; seen = false; raw = pos 0 }
+
+-- ---- where no sum can pass 64 bits
+
+-- these can be the sums of at most n samples, and n is no more than an interval can have: no sum is over n times 2^46, the greatest square and
+-- the greatest product of numbers of the 24-bit range
+unfoldable pub ofAtMost : ℕ → Sums → Bool
+ofAtMost n s = leb n 4096 && leb (s .vv) (n * 2 ^ 46) && leb (s .flow .ii) (n * 2 ^ 46) && leb (natAbs (s .flow .vi)) (n * 2 ^ 46)
+
+-- the card's PHASE is in its range
+unfoldable pub phaseInRange : Card → Bool
+phaseInRange c = fieldInRange (pos 5) (field c 5)
+
+-- the samples of two slices may join the sums of n samples: as many currents as voltages, and no more than 4,096 samples in all
+unfoldable pub hasRoom : ℕ → Card → Sums → List ℤ → List ℤ → Bool
+hasRoom n c s v i = eqb (length v) (length i) && leb (n + length v) 4096 && ofAtMost n s && phaseInRange c
+
+-- they join where they may; else the sums stay as they are
+unfoldable pub withSamples : ℕ → Card → Sums → List ℤ → List ℤ → Sums
+withSamples n c s v i = cond (hasRoom n c s v i) (addedAll c s (samplesIn v i)) s

@@ -3,6 +3,8 @@ ghost use mathlib.Core.Path.{_≡_};
 ghost use Rattle.sample.specs.Sample.{corrected, mixed, every24};
 ghost use Rattle.sample.specs.Sums.{emptied, noSums};
 
+pub mod samples;
+
 // (raw - offset) times gain / 2^21, rounded down and clipped. No i32 makes it overflow.
 pub fn correct(raw: i32, offset: i32, gain: i32) -> i32
     ensures { λ r. ⌜ r ≡ corrected raw offset gain ⌝ }

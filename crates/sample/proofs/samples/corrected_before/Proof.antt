@@ -2,10 +2,10 @@
 use mir.Syntax.{w32}
 use mir.Val.{SFits}
 use mir.Facts.{toZ-ofZ}
 use Rattle.sample.specs.Sums.{previous}
 use borrow.Author.Needs.{needs, sfits-of}
-use Rattle.meter.proofs.samples.corrected_before.Statement.{statement}
-use Rattle.meter.proofs.samples.corrected_before.Tie as tie
+use Rattle.sample.proofs.samples.corrected_before.Statement.{statement}
+use Rattle.sample.proofs.samples.corrected_before.Tie as tie
 
 correct-requires : tie.Need-correct-requires
 correct-requires c κs = search needs

@@ -11,12 +11,12 @@ use mir.Val.{SFits}
 use Rattle.number.proofs.Signed.{up, dn, add-is, abs-is}
 use Rattle.number.proofs.Fits.{within, Size, size-mul}
 use Rattle.number.proofs.Ranges.{size24}
 use Rattle.sample.specs.declared.Flow.{Flow}
 use Rattle.sample.specs.declared.Sums.{Sums}
 use Rattle.number.specs.Sign.{squareOf}
 use Rattle.sample.specs.Sums.{joined, summed}
-use Rattle.meter.specs.Sound.{Flowing, Room, Spare, Phased}
-use Rattle.meter.specs.Samples.{probeOf}
+use Rattle.sample.specs.Inside.{Flowing, Room, Spare, Phased}
+use Rattle.sample.specs.Inside.{probeOf}
 use Rattle.card.specs.declared.Card.{Card}
 
 -- squares and products of numbers of the range
@@ -27,15 +27,15 @@ product24 : (x y : ℤ) → mag x < 8388608 → mag y < 8388608 → Size (x *ℤ
 product24 x y h k = size-mul (size24 x h) (size24 y k)
 
 -- a sum whose size is bounded by k samples has room for one more in 64 bits
-pub vi-fits : (z : ℤ) (k : ℕ) → k ≤ 4097 → natAbs z / 70368744177664 ≤ k → SFits w64 z
+pub vi-fits : (z : ℤ) (k : ℕ) → k ≤ 4097 → natAbs z ≤ k * 2 ^ 46 → SFits w64 z
 vi-fits z k h l = within (omega (arith, abs-is z))
 
-pub vi-more : (z x y : ℤ) (k : ℕ) → mag x < 8388608 → mag y < 8388608 → natAbs z / 70368744177664 ≤ k → natAbs (z +ℤ x *ℤ y) / 70368744177664 ≤ k + 1
+pub vi-more : (z x y : ℤ) (k : ℕ) → mag x < 8388608 → mag y < 8388608 → natAbs z ≤ k * 2 ^ 46 → natAbs (z +ℤ x *ℤ y) ≤ (k + 1) * 2 ^ 46
 vi-more z x y k h l p =
     let q : Size (x *ℤ y) 70368744177664 = product24 x y h l in
     omega (arith, abs-is z, abs-is (z +ℤ x *ℤ y), add-is z (x *ℤ y))
 
-pub square-more : (s : ℕ) (x : ℤ) (k : ℕ) → mag x < 8388608 → s / 70368744177664 ≤ k → (s + squareOf x) / 70368744177664 ≤ k + 1
+pub square-more : (s : ℕ) (x : ℤ) (k : ℕ) → mag x < 8388608 → s ≤ k * 2 ^ 46 → (s + squareOf x) ≤ (k + 1) * 2 ^ 46
 square-more s x k h p = omega (arith, square24 x h)
 
 pub flowing-more : (f : Flow) (v i : ℤ) (k : ℕ) → Flowing f k → mag v < 8388608 → mag i < 8388608 → Flowing (joined f v i) (k + 1)

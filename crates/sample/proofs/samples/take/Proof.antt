@@ -6,12 +6,12 @@ use lib.Signed.{mag}
 use mir.Syntax.{w32, w64}
 use mir.Val.{SFits}
 use mir.Facts.{toZ-ofZ}
 use Rattle.sample.specs.Sample.{corrected, mixed}
 use Rattle.number.proofs.Ranges.{in-fits, in-mag}
 use Rattle.sample.proofs.Corrections.{mixed-in, corrected-in}
 use borrow.Author.Needs.{needs, sfits-of}
-use Rattle.meter.proofs.samples.take.Statement.{statement}
-use Rattle.meter.proofs.samples.take.Tie as tie
+use Rattle.sample.proofs.samples.take.Statement.{statement}
+use Rattle.sample.proofs.samples.take.Tie as tie
 
 correct-requires : tie.Need-correct-requires
 correct-requires c κs = search needs

@@ -1,14 +1,14 @@
 -- `add` meets its contract.
-use Prim.Native.Nat.{_/_, _≤_}
+use Prim.Native.Nat.{_*_, _^_, _≤_}
 use native.Mathlib.Omega.{arith}
 use mathlib.Core.Path.{_≡_}
 use mir.Facts.{toZ-ofZ}
 use Rattle.number.specs.Sign.{squareOf}
 use Rattle.sample.specs.Sums.{summed}
-use Rattle.meter.proofs.Rooms.{square24}
+use Rattle.sample.proofs.Rooms.{square24}
 use borrow.Author.Needs.{needs}
-use Rattle.meter.proofs.samples.add.Statement.{statement}
-use Rattle.meter.proofs.samples.add.Tie as tie
+use Rattle.sample.proofs.samples.add.Statement.{statement}
+use Rattle.sample.proofs.samples.add.Tie as tie
 
 join-requires : tie.Need-join-requires
 join-requires c κs = search needs
@@ -17,7 +17,7 @@ square-requires : tie.Need-square-requires
 square-requires c κs = search needs
 
 v-square : (c : tie.After-square) → let start = c .before .before .before in
-    (c .square .result ≡ squareOf (start .args .v)) × (c .square .result ≤ 70368744177664) × (start .args .s .vv / 70368744177664 ≤ 4096)
+    (c .square .result ≡ squareOf (start .args .v)) × (c .square .result ≤ 70368744177664) × (start .args .s .vv ≤ 4096 * 2 ^ 46)
 v-square c =
     let start = c .before .before .before in
     let e : c .square .result ≡ squareOf (start .args .v) = rw (toZ-ofZ (start .fits .v)) at (c .square .ensures) in

@@ -10,16 +10,17 @@ use lib.Signed.{mag}
 use mir.Syntax.{w32}
 use mir.Val.{SFits, toZ, ofZ}
 use mir.Facts.{toZ-ofZ}
 use Rattle.sample.specs.Sample.{corrected, mixed}
 use Rattle.sample.proofs.Corrections.{mixed-in, corrected-in}
 use Rattle.number.proofs.Ranges.{in-fits, in-mag}
 use Rattle.sample.specs.Sums.{previous, summed}
-use Rattle.meter.specs.Samples.{samplesIn, probedAll, probed}
-use Rattle.meter.specs.Sound.{Spare}
-use Rattle.meter.proofs.Rooms.{spare-room, spare-more, spare-at}
-use Rattle.meter.proofs.Slices.{probe-more, probe-end, previous-after}
-use Rattle.meter.proofs.samples.run_with.Statement.{statement}
-use Rattle.meter.proofs.samples.run_with.Tie as tie
+use Rattle.sample.specs.Inside.{probedAll, probed}
+use Rattle.sample.specs.Sums.{samplesIn}
+use Rattle.sample.specs.Inside.{Spare}
+use Rattle.sample.proofs.Rooms.{spare-room, spare-more, spare-at}
+use Rattle.sample.proofs.Slices.{probe-more, probe-end, previous-after}
+use Rattle.sample.proofs.samples.run_with.Statement.{statement}
+use Rattle.sample.proofs.samples.run_with.Tie as tie
 
 abbrev Inv-loop : tie.InvT-loop
 Inv-loop p first v i old₀ s₀ k₀ old s k =

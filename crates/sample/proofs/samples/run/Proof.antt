@@ -6,13 +6,14 @@ use lib.ListN.{getD}
 use mir.Syntax.{w32}
 use mir.Val.{SFits}
 use mir.Facts.{toZ-ofZ}
-use Rattle.meter.specs.declared.samples.Probe.{Probe}
-use Rattle.meter.specs.Samples.{probedAll, samplesIn}
-use Rattle.meter.proofs.Rooms.{phase-most}
-use Rattle.meter.proofs.Slices.{none-added, probe-is}
+use Rattle.sample.specs.declared.samples.Probe.{Probe}
+use Rattle.sample.specs.Inside.{probedAll}
+use Rattle.sample.specs.Sums.{samplesIn}
+use Rattle.sample.proofs.Rooms.{phase-most}
+use Rattle.sample.proofs.Slices.{none-added, probe-is}
 use borrow.Author.Needs.{needs, sfits-of}
-use Rattle.meter.proofs.samples.run.Statement.{statement}
-use Rattle.meter.proofs.samples.run.Tie as tie
+use Rattle.sample.proofs.samples.run.Statement.{statement}
+use Rattle.sample.proofs.samples.run.Tie as tie
 
 returns : tie.Need-returns
 returns c = let a = c .before .args in sym (none-added (a .c) (a .s0) (now (a .v)) (now (a .i)) (c .if1 .taken))

@@ -5,10 +5,10 @@ use lib.ListN.{getD}
 use mir.Syntax.{w32}
 use mir.Val.{SFits}
 use mir.Facts.{toZ-ofZ}
-use Rattle.meter.specs.Samples.{probeOf}
+use Rattle.sample.specs.Inside.{probeOf}
 use borrow.Author.Needs.{needs}
-use Rattle.meter.proofs.samples.probe_of.Statement.{statement}
-use Rattle.meter.proofs.samples.probe_of.Tie as tie
+use Rattle.sample.proofs.samples.probe_of.Statement.{statement}
+use Rattle.sample.proofs.samples.probe_of.Tie as tie
 
 array-copy-out-t5 : tie.Need-array-copy-out-t5
 array-copy-out-t5 c = search needs

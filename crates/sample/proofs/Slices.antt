@@ -7,12 +7,13 @@ use native.Mathlib.Numerals.{add-one}
 use native.Mathlib.Omega.{arith}
 use lib.ListN.{length, getD, take, drop, drop-of-length-le}
 use lib.IntN.{ℤ, pos}
 use Rattle.sample.specs.Sample.{corrected, mixed, voltage, current, phased}
 use Rattle.card.specs.declared.Card.{Card}
 use Rattle.sample.specs.declared.Sums.{Sums}
 use Rattle.sample.specs.Sums.{Sample, summed, added, addedAll, previous}
-use Rattle.meter.specs.declared.samples.Probe.{Probe}
-use Rattle.meter.specs.Samples.{samplesIn, probeOf, probed, probedAll}
+use Rattle.sample.specs.declared.samples.Probe.{Probe}
+use Rattle.sample.specs.Inside.{probeOf, probed, probedAll}
+use Rattle.sample.specs.Sums.{samplesIn}
 
 pub samples-long : (vs is : List ℤ) → length vs ≡ length is → length (samplesIn vs is) ≡ length vs
 unfolding samplesIn

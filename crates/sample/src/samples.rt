@@ -4,13 +4,14 @@ ghost use Prim.Native.Nat.{_≤_, _<_};
 ghost use lib.IntN.{ℤ, pos};
 ghost use lib.Signed.{mag};
 ghost use lib.ListN.{length, getD};
 ghost use Rattle.sample.specs.Sample.{corrected, mixed};
-ghost use Rattle.sample.specs.Sums.{joined, summed, previous, addedAll};
-ghost use Rattle.meter.specs.Samples.{samplesIn, probeOf, probedAll};
-ghost use Rattle.meter.specs.Sound.{Flowing, Room, Spare, Phased};
+ghost use Rattle.sample.specs.Sums.{joined, summed, previous, samplesIn, addedAll, ofAtMost, phaseInRange, withSamples};
+ghost use Rattle.sample.specs.Inside.{probeOf, probedAll, Flowing, Room, Spare, Phased};
+use super::Flow;
+use super::Sums;
+use super::correct;
+use super::mix;
 use card::Card;
-use sample::Flow;
-use sample::Sums;
 
 // The five values that a sample needs of its card.
 pub struct Probe {
@@ -72,8 +73,8 @@ fn take(s: Sums, p: Probe, v: i32, now: i32, old: i32, raw: i32) -> Sums
     requires { ⌜ Room s 4096 × (p .phase ≤ 4095) × (mag now < 8388608) × (mag old < 8388608) ⌝ }
     ensures { λ r. ⌜ r ≡ summed s (corrected v (p .voffs) (p .vgain)) (mixed (p .phase) now old) raw ⌝ }
 {
-    let cv = sample::correct(v, p.voffs, p.vgain);
-    let m = sample::mix(p.phase, now, old);
+    let cv = correct(v, p.voffs, p.vgain);
+    let m = mix(p.phase, now, old);
     add(s, cv, m as i32, raw)
 }
 
@@ -82,9 +83,9 @@ fn corrected_before(s: Sums, p: Probe, raw: i32) -> i32
     ensures { λ r. ⌜ r ≡ corrected (previous s raw) (p .ioffs) (p .igain) ⌝ }
 {
     if s.seen {
-        return sample::correct(s.raw, p.ioffs, p.igain);
+        return correct(s.raw, p.ioffs, p.igain);
     }
-    sample::correct(raw, p.ioffs, p.igain)
+    correct(raw, p.ioffs, p.igain)
 }
 
 // The samples of two slices, one after another; first is the corrected current before the first of them.
@@ -98,7 +99,7 @@ fn run_with(s0: Sums, p: Probe, first: i32, v: &[i32], i: &[i32]) -> Sums
     let mut k: usize = 0;
     while k < v.len() {
         let raw = i[k];
-        let now = sample::correct(raw, p.ioffs, p.igain);
+        let now = correct(raw, p.ioffs, p.igain);
         s = take(s, p, v[k], now, old, raw);
         old = now;
         k += 1;
@@ -107,7 +108,7 @@ fn run_with(s0: Sums, p: Probe, first: i32, v: &[i32], i: &[i32]) -> Sums
 }
 
 // The samples of two slices, one after another.
-pub(crate) fn run(s0: Sums, c: Card, v: &[i32], i: &[i32]) -> Sums
+fn run(s0: Sums, c: Card, v: &[i32], i: &[i32]) -> Sums
     requires { ⌜ Phased c × Spare s0 (length (now v)) × (length (now v) ≡ length (now i)) ⌝ }
     ensures { λ r. ⌜ r ≡ addedAll c s0 (samplesIn (now (v .entry)) (now (i .entry))) ⌝ }
 {
@@ -117,4 +118,41 @@ pub(crate) fn run(s0: Sums, c: Card, v: &[i32], i: &[i32]) -> Sums
     let p = probe_of(c);
     let first = corrected_before(s0, p, i[0]);
     run_with(s0, p, first, v, i)
+}
+
+// Whether a card's PHASE is in its range.
+pub fn phase_in_range(c: Card) -> bool
+    ensures { λ r. ⌜ r ≡ phaseInRange c ⌝ }
+{
+    let f = c.fields;
+    card::field_in_range(5, f[4] as i64)
+}
+
+impl Sums {
+    // Whether these can be the sums of at most n samples: then none can pass 64 bits.
+    pub fn of_at_most(self, n: u32) -> bool
+        ensures { λ r. ⌜ r ≡ ofAtMost n self ⌝ }
+    {
+        if n <= 4096 {
+            let most = n as u64 * 70368744177664;
+            let f = self.flow;
+            let z = number::size(f.vi);
+            return (self.vv <= most) & (f.ii <= most) & (z <= most);
+        }
+        false
+    }
+
+    // The samples of two slices join the sums of n samples; where a sum could pass 64 bits, nothing joins.
+    pub fn with_samples(self, n: u32, c: Card, v: &[i32], i: &[i32]) -> Sums
+        ensures { λ r. ⌜ r ≡ withSamples n c self (now (v .entry)) (now (i .entry)) ⌝ }
+    {
+        if v.len() == i.len() {
+            if v.len() <= 4096 {
+                if (n as usize <= 4096 - v.len()) & self.of_at_most(n) & phase_in_range(c) {
+                    return run(self, c, v, i);
+                }
+            }
+        }
+        self
+    }
 }

@@ -1,6 +1,6 @@
 -- `join` meets its contract.
 use borrow.Author.Needs.{needs, sfits-of}
-use Prim.Native.Nat.{_/_, _≤_, max}
+use Prim.Native.Nat.{_*_, _^_, _≤_, max}
 use native.Mathlib.Omega.{arith}
 use mathlib.Core.Path.{_≡_}
 use mathlib.Core.Logic.{⊎-elim}
@@ -11,10 +11,10 @@ use mir.Val.{SFits}
 use mir.Facts.{toZ-ofZ}
 use Rattle.number.specs.Sign.{squareOf}
 use Rattle.number.proofs.Fits.{ranges, widen}
 use Rattle.sample.specs.Sums.{joined}
-use Rattle.meter.proofs.Rooms.{square24, vi-fits, vi-more}
-use Rattle.meter.proofs.samples.join.Statement.{statement}
-use Rattle.meter.proofs.samples.join.Tie as tie
+use Rattle.sample.proofs.Rooms.{square24, vi-fits, vi-more}
+use Rattle.sample.proofs.samples.join.Statement.{statement}
+use Rattle.sample.proofs.samples.join.Tie as tie
 
 cast-size : tie.Need-cast-size
 cast-size c = search ranges
@@ -34,7 +34,7 @@ square-requires : tie.Need-square-requires
 square-requires c κs = search needs
 
 i-square : (c : tie.After-square) → let start = c .before .before .before in
-    (c .square .result ≡ squareOf (start .args .i)) × (c .square .result ≤ 70368744177664) × (start .args .f .ii / 70368744177664 ≤ 4096)
+    (c .square .result ≡ squareOf (start .args .i)) × (c .square .result ≤ 70368744177664) × (start .args .f .ii ≤ 4096 * 2 ^ 46)
 i-square c =
     let start = c .before .before .before in
     let e : c .square .result ≡ squareOf (start .args .i) = rw (toZ-ofZ (start .fits .i)) at (c .square .ensures) in
