@@ -17,36 +17,18 @@ use Rattle.interval.specs.declared.close.Closed.{Closed}
 use Rattle.sample.specs.Fields.{field}
 use Rattle.sample.specs.Sums.{Sample}
 use Rattle.meter.specs.declared.Meter.{Meter as Kept}
-use Rattle.meter.specs.Sound.{Room, Phased, Sound}
-use Rattle.meter.specs.Core.{core, seen, kept, samplesOf, fedOf}
-use Rattle.meter.specs.Blocks.{phaseInRange, soundOf, cardOf, carded, answered, blockOf}
+use Rattle.meter.proofs.Sound.{Sound, sound-yes}
+use Rattle.sample.specs.Inside.{Room, Phased}
+use Rattle.meter.specs.Core.{core, meterOf, keptOf, samplesOf}
+use Rattle.meter.specs.Inside.{fedOf}
+use Rattle.meter.specs.Blocks.{soundOf, nextCard, carded, answered, blockOf}
 use Rattle.meter.proofs.Stretches.{fed-is, fed-append, fed-none}
 use Rattle.meter.proofs.Keeping.{stretch-sound}
 
--- ---- a sound state passes the test
-both-true : {s t : Bool} → s ≡ true → t ≡ true → s && t ≡ true
-both-true p q = ap₂ _&&_ p q
-
-phase-yes : (z : ℤ) → T (nonNeg z) → natAbs z ≤ 4095 → leZ (pos 0) z && leZ z (pos 4095) ≡ true
-phase-yes (pos n) p q = both-true (le-leb 0 n (omega arith)) (le-leb n 4095 q)
-phase-yes (negsuc n) p q = absurd p
-
-phased-yes : (c : Card) → Phased c → phaseInRange c ≡ true
-unfolding phaseInRange
-phased-yes c h = phase-yes (field c 5) (h .low) (h .high)
-
-pub sound-yes : (m : Kept) → Sound m → soundOf m ≡ true
-unfolding soundOf
-sound-yes m h =
-    both-true (both-true (both-true (both-true (both-true (both-true
-    (le-leb _ _ (h .n-most)) (lt-ltb _ _ (h .taken-most)))
-    (le-leb _ _ (h .room .vv))) (le-leb _ _ (h .room .flow .ii))) (le-leb _ _ (h .room .flow .vi)))
-    (phased-yes (m .waiting) (h .waiting))) (phased-yes (m .force) (h .force))
-
 -- ---- so the code's block is the core's
-pub block-feeds : (m : Kept) (v i : List ℤ) → Sound m → blockOf m v i ≡ answered m (feeds core (samplesOf v i) (latest core (seen m)) (seen m))
-unfolding blockOf cardOf
-block-feeds m v i h = ap (λ (t : Bool). answered m (feeds core (samplesOf v i) (cond t (latest core (seen m)) none) (seen m))) (sound-yes m h)
+pub block-feeds : (m : Kept) (v i : List ℤ) → Sound m → blockOf m v i ≡ answered m (feeds core (samplesOf v i) (latest core (meterOf m)) (meterOf m))
+unfolding blockOf nextCard
+block-feeds m v i h = ap (λ (t : Bool). answered m (feeds core (samplesOf v i) (cond t (latest core (meterOf m)) none) (meterOf m))) (sound-yes m h)
 
 -- for a sound state there is a card exactly when one is in force or waits
 pub carded-is : (m : Kept) → Sound m → carded m ≡ (m .waits || m .forced)
@@ -63,19 +45,19 @@ pub fed-sound : (xs : List Sample) (m : Kept) → Sound m → Sound (fedOf m xs)
 fed-sound [] m h = subst (λ (q : Kept). Sound q) (sym (fed-none m)) h
 fed-sound (x ∷ xs) m h = subst (λ (q : Kept). Sound q) (sym (fed-append m (x ∷ []) xs)) (fed-sound xs (fedOf m (x ∷ [])) (one-sound m x h))
 
-samples-sound : (xs : List Sample) (m : Meter core) → Sound (kept m) → Sound (kept (samples core xs m .0))
+samples-sound : (xs : List Sample) (m : Meter core) → Sound (keptOf m) → Sound (keptOf (samples core xs m .0))
 unfolding fedOf
-samples-sound xs m h = fed-sound xs (kept m) h
+samples-sound xs m h = fed-sound xs (keptOf m) h
 
 never : {A B : Type 0} {n : ℕ} {q : A} → refused n ≡ accepted q → B
 never e = let z : _≡_ {A = ℕ} 0 1 = cc in absurd (omega arith)
 
-pub feeds-sound : (r : OrRefusal (List Sample)) (o : Option Card) (m : Meter core) (q : Meter core × List Closed) → feeds core r o m ≡ accepted q → Sound (kept m) → Sound (kept (q .0))
+pub feeds-sound : (r : OrRefusal (List Sample)) (o : Option Card) (m : Meter core) (q : Meter core × List Closed) → feeds core r o m ≡ accepted q → Sound (keptOf m) → Sound (keptOf (q .0))
 feeds-sound (refused n) o m q e h = never e
 feeds-sound (accepted xs) none m q e h = never e
 feeds-sound (accepted xs) (some c) m q e h =
     let k : samples core xs m ≡ q = cc in
-    subst (λ (q : Meter core × List Closed). Sound (kept (q .0))) k (samples-sound xs m h)
+    subst (λ (q : Meter core × List Closed). Sound (keptOf (q .0))) k (samples-sound xs m h)
 
-pub wait-sound : (m : Meter core) (c : Card) → Phased c → Sound (kept m) → Sound (kept (waitsFor core c m))
+pub wait-sound : (m : Meter core) (c : Card) → Phased c → Sound (keptOf m) → Sound (keptOf (waitsFor core c m))
 wait-sound m c p h = record { n-most = h .n-most; taken-most = h .taken-most; room = h .room; waiting = p; force = h .force }

@@ -19,40 +19,16 @@ use Rattle.sample.specs.Sample.{voltage, current, phased}
 use Rattle.sample.specs.Sums.{Sample, added, addedAll, previous, emptied}
 use Rattle.meter.specs.declared.Work.{Work}
 use Rattle.meter.specs.declared.Meter.{Meter as Kept}
-use Rattle.meter.specs.Sound.{Room, Spare, Phased, Sound}
-use Rattle.meter.specs.Core.{core, seen, kept, begunOf, endOf, stretchOf, withSums, closedWork}
-use Rattle.meter.proofs.Rooms.{room-more, room-less}
+use Rattle.meter.proofs.Sound.{Sound}
+use Rattle.sample.specs.Inside.{Room, Spare, Phased}
+use Rattle.meter.specs.Core.{core, meterOf, keptOf, withSums, closedWork}
+use Rattle.meter.specs.Inside.{begunOf, endOf, stretchOf}
+use Rattle.sample.proofs.Rooms.{all-room, empty-room}
 
 -- a choice, case by case
 pub cond-case : (t : Bool) {A : Type 0} (P : A → Type 0) {x y : A} → (t ≡ true → P x) → (t ≡ false → P y) → P (cond t x y)
 cond-case true P p q = p refl
 cond-case false P p q = q refl
-
--- ---- the sums
-voltage-in : (c : Card) (x : ℤ) → mag (voltage c x) < 8388608
-unfolding voltage
-voltage-in c x = corrected-in x (field c 1) (field c 3)
-
-current-in : (c : Card) (x : ℤ) → mag (current c x) < 8388608
-unfolding current
-current-in c x = corrected-in x (field c 2) (field c 4)
-
-phased-in : (c : Card) → Phased c → (x y : ℤ) → mag (phased c x y) < 8388608
-unfolding phased
-phased-in c h x y = mixed-in (natAbs (field c 5)) (current c x) (current c y) (omega (arith, h .high)) (current-in c x) (current-in c y)
-
-one-room : (c : Card) → Phased c → (s : Sums) (x : Sample) (k : ℕ) → Room s k → Room (added c s (x .0) (x .1)) (k + 1)
-unfolding added
-one-room c h s x k r = room-more s (voltage c (x .0)) (phased c (x .1) (previous s (x .1))) (x .1) k r (voltage-in c (x .0)) (phased-in c h (x .1) (previous s (x .1)))
-
-pub all-room : (c : Card) → Phased c → (xs : List Sample) (s : Sums) (k : ℕ) → Room s k → Room (addedAll c s xs) (k + length xs)
-unfolding addedAll
-all-room c h [] s k r = room-less s k (k + 0) (omega arith) r
-all-room c h (x ∷ xs) s k r = room-less (addedAll c (added c s (x .0) (x .1)) xs) (k + 1 + length xs) (k + suc (length xs)) (omega arith) (all-room c h xs (added c s (x .0) (x .1)) (k + 1) (one-room c h s x k r))
-
-empty-room : (s : Sums) → Room (emptied s) 0
-unfolding emptied
-empty-room s = record { vv = omega arith; flow = record { ii = omega arith; vi = omega arith } }
 
 -- ---- the card that comes into force
 pub record Begun (m q : Kept) : Type 0 where
@@ -61,7 +37,7 @@ pub record Begun (m q : Kept) : Type 0 where
   pub waiting : Phased (q .waiting)
   pub force : Phased (q .force)
 
-by-waits : (b : Bool) (m : Kept) → Sound m → Begun m (kept (cond b (waitOver core (seen m)) (seen m)))
+by-waits : (b : Bool) (m : Kept) → Sound m → Begun m (keptOf (cond b (waitOver core (meterOf m)) (meterOf m)))
 by-waits true m h = record { work = refl; taken = refl; waiting = h .waiting; force = h .waiting }
 by-waits false m h = record { work = refl; taken = refl; waiting = h .waiting; force = h .force }
 

@@ -1,6 +1,5 @@
 -- Laws of the meter.
-pub mod Rooms
-pub mod Slices
+pub mod Sound
 pub mod Stretches
 pub mod Keeping
 pub mod Ways

@@ -13,11 +13,12 @@ use lib.ListN.{length, getD, drop, drop-of-length-le, replicate}
 use lib.Seq.{drop-cons}
 use Rattle.address.specs.declared.WordAddr.{WordAddr}
 use Rattle.address.specs.Slots.{everySlot}
-use Rattle.meter.specs.Sound.{Room, Phased, Sound}
+use Rattle.meter.proofs.Sound.{Sound}
+use Rattle.sample.specs.Inside.{Room, Phased}
 use Rattle.sample.specs.Sums.{noSums}
 use Rattle.meter.specs.Starting.{numbersOk, noCard, freshOf, startOf, notStarted}
 use Rattle.meter.specs.declared.Stepped.{Stepped}
-use Rattle.meter.specs.declared.Answer.the-variants.{Done}
+use Rattle.steps.specs.declared.Answer.the-variants.{Done}
 
 -- a fresh module is sound
 no-card-phased : Phased noCard

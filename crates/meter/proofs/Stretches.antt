@@ -16,30 +16,31 @@ use Rattle.interval.specs.declared.close.Closed.{Closed}
 use Rattle.meter.specs.declared.Work.{Work}
 use Rattle.meter.specs.declared.Meter.{Meter as Kept}
 use Rattle.sample.specs.Sums.{Sample, added, addedAll}
-use Rattle.meter.specs.Core.{core, seen, kept, fedOf, begunOf, endOf, stretchOf, withSums, closedWork}
+use Rattle.meter.specs.Core.{core, meterOf, keptOf, withSums, closedWork}
+use Rattle.meter.specs.Inside.{fedOf, begunOf, endOf, stretchOf}
 
 -- a sample has joined, and closes the interval or not
 abbrev joined-by : Bool → ℕ → Work → Meter core → Meter core × List Closed
 joined-by b n w m = cond b (closing core w m) (workedOn core n w m, [])
 
-joined-is : (b : Bool) (n : ℕ) (w : Work) (m : Meter core) → kept (joined-by b n w m .0) ≡
+joined-is : (b : Bool) (n : ℕ) (w : Work) (m : Meter core) → keptOf (joined-by b n w m .0) ≡
     cond b (record { waits = m .waits; waiting = m .waiting; forced = m .forced; force = m .force; taken = 0; work = closedWork (m .force) w })
     (record { waits = m .waits; waiting = m .waiting; forced = m .forced; force = m .force; taken = n; work = w })
 joined-is true n w m = refl
 joined-is false n w m = refl
 
 joins-run : (xs : List Sample) (x : Sample) (n : ℕ) (w : Work) (m : Meter core) → suc n + length xs ≤ w .settings .n →
-    kept (samples core xs (joins core n w m x .0) .0) ≡ endOf (suc n + length xs) (withSums w (addedAll (m .force) (w .sums) (x ∷ xs))) (kept m)
+    keptOf (samples core xs (joins core n w m x .0) .0) ≡ endOf (suc n + length xs) (withSums w (addedAll (m .force) (w .sums) (x ∷ xs))) (keptOf m)
 unfolding endOf addedAll
 joins-run [] x n w m h =
     joined-is (eqb (suc n) (w .settings .n)) (suc n) (withSums w (added (m .force) (w .sums) (x .0) (x .1))) m
-    ∙ ap (λ (k : ℕ). endOf k (withSums w (added (m .force) (w .sums) (x .0) (x .1))) (kept m)) (sym (add-zero (suc n)))
+    ∙ ap (λ (k : ℕ). endOf k (withSums w (added (m .force) (w .sums) (x .0) (x .1))) (keptOf m)) (sym (add-zero (suc n)))
 joins-run (y ∷ ys) x n w m h =
     let w′ = withSums w (added (m .force) (w .sums) (x .0) (x .1)) in
     let more : suc (suc n) + length ys ≡ suc n + suc (length ys) = omega arith in
-    ap (λ (b : Bool). kept (samples core (y ∷ ys) (joined-by b (suc n) w′ m .0) .0)) (ne-eqb (suc n) (w .settings .n) (omega arith))
+    ap (λ (b : Bool). keptOf (samples core (y ∷ ys) (joined-by b (suc n) w′ m .0) .0)) (ne-eqb (suc n) (w .settings .n) (omega arith))
     ∙ joins-run ys y (suc n) w′ (workedOn core (suc n) w′ m) (omega arith)
-    ∙ ap (λ (k : ℕ). endOf k (withSums w (addedAll (m .force) (added (m .force) (w .sums) (x .0) (x .1)) (y ∷ ys))) (kept m)) more
+    ∙ ap (λ (k : ℕ). endOf k (withSums w (addedAll (m .force) (added (m .force) (w .sums) (x .0) (x .1)) (y ∷ ys))) (keptOf m)) more
 
 begun-work : (b : Bool) (m : Meter core) → cond b (waitOver core m) m .work ≡ m .work
 begun-work true m = refl
@@ -49,20 +50,20 @@ module _ (m : Kept) (x : Sample) (xs : List Sample) (h : m .taken + suc (length 
   abbrev from : Kept → ℕ → Kept
   from q n = endOf (n + suc (length xs)) (withSums (q .work) (addedAll (q .force) (q .work .sums) (x ∷ xs))) q
 
-  fed-by : (n : ℕ) → m .taken ≡ n → kept (samples core xs (sample core n (seen m) x .0) .0) ≡ from (begunOf m) (m .taken)
+  fed-by : (n : ℕ) → m .taken ≡ n → keptOf (samples core xs (sample core n (meterOf m) x .0) .0) ≡ from (begunOf m) (m .taken)
   unfolding begunOf
   fed-by zero e =
-      let q = begun core (seen m) in
-      let w : q .work ≡ m .work = begun-work (m .waits) (seen m) in
+      let q = begun core (meterOf m) in
+      let w : q .work ≡ m .work = begun-work (m .waits) (meterOf m) in
       let one : suc 0 + length xs ≡ m .taken + suc (length xs) = omega arith in
       joins-run xs x 0 (q .work) q (rw w (omega arith))
-      ∙ ap (λ (k : ℕ). endOf k (withSums (q .work) (addedAll (q .force) (q .work .sums) (x ∷ xs))) (kept q)) one
-      ∙ ap (λ (b : Bool). from (cond b (kept q) m) (m .taken)) (sym (eq-eqb (m .taken) 0 e))
+      ∙ ap (λ (k : ℕ). endOf k (withSums (q .work) (addedAll (q .force) (q .work .sums) (x ∷ xs))) (keptOf q)) one
+      ∙ ap (λ (b : Bool). from (cond b (keptOf q) m) (m .taken)) (sym (eq-eqb (m .taken) 0 e))
   fed-by (suc n) e =
       let one : suc (suc n) + length xs ≡ m .taken + suc (length xs) = omega arith in
-      joins-run xs x (suc n) (m .work) (seen m) (omega arith)
+      joins-run xs x (suc n) (m .work) (meterOf m) (omega arith)
       ∙ ap (λ (k : ℕ). endOf k (withSums (m .work) (addedAll (m .force) (m .work .sums) (x ∷ xs))) m) one
-      ∙ ap (λ (b : Bool). from (cond b (kept (begun core (seen m))) m) (m .taken)) (sym (ne-eqb (m .taken) 0 (omega arith)))
+      ∙ ap (λ (b : Bool). from (cond b (keptOf (begun core (meterOf m))) m) (m .taken)) (sym (ne-eqb (m .taken) 0 (omega arith)))
 
   fed-one : fedOf m (x ∷ xs) ≡ stretchOf m (x ∷ xs)
   unfolding fedOf stretchOf
@@ -78,7 +79,7 @@ samples-append (x ∷ xs) ys m = samples-append xs ys (sample core (m .taken) m 
 
 pub fed-append : (m : Kept) (xs ys : List Sample) → fedOf m (xs ++ ys) ≡ fedOf (fedOf m xs) ys
 unfolding fedOf
-fed-append m xs ys = ap kept (samples-append xs ys (seen m))
+fed-append m xs ys = ap keptOf (samples-append xs ys (meterOf m))
 
 pub fed-none : (m : Kept) → fedOf m [] ≡ m
 unfolding fedOf

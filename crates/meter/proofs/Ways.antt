@@ -1,4 +1,4 @@
--- The ways through a block: which test leads to which answer, and that a state which passes the test is sound.
+-- The ways through a block: which test leads to which answer.
 use Prim.Native.Nat.{ℕ, zero, suc, _+_, _/_, _≤_, _<_, _^_}
 use mathlib.Core.Path.{_≡_, refl, sym, ap, ap₂, _∙_}
 use mathlib.Core.Bool.{Bool, true, false, cond, _&&_, _||_, true≢false}
@@ -19,54 +19,17 @@ use Rattle.interval.specs.declared.close.Closed.{Closed}
 use Rattle.sample.specs.Fields.{field}
 use Rattle.meter.specs.declared.Meter.{Meter as Kept}
 use Rattle.meter.specs.declared.Stepped.{Stepped}
-use Rattle.meter.specs.declared.Answer.the-variants.{Done, Refused}
+use Rattle.steps.specs.declared.Answer.the-variants.{Done, Refused}
 use Rattle.sample.specs.Sums.{Sample}
-use Rattle.meter.specs.Samples.{samplesIn}
-use Rattle.meter.specs.Sound.{Room, Phased, Sound}
+use Rattle.sample.specs.Sums.{samplesIn}
+use Rattle.meter.proofs.Sound.{Sound}
+use Rattle.sample.specs.Inside.{Room, Phased}
 use Rattle.number.specs.Range.{in24}
 use Rattle.sample.specs.Sample.{every24}
-use Rattle.meter.specs.Core.{core, seen, kept, samplesOf, fedOf}
-use Rattle.meter.specs.Blocks.{phaseInRange, soundOf, cardOf, carded, answered, blockOf}
-
--- ---- a state that passes the check is sound
-both-of : (s t : Bool) → s && t ≡ true → (s ≡ true) × (t ≡ true)
-both-of true t e = (refl, e)
-both-of false t e = absurd (true≢false (sym e))
-
-phase-low : (z : ℤ) → leZ (pos 0) z ≡ true → T (nonNeg z)
-phase-low (pos n) e = tt
-phase-low (negsuc n) e = absurd (true≢false (sym e))
-
-phase-high : (z : ℤ) → leZ (pos 0) z ≡ true → leZ z (pos 4095) ≡ true → natAbs z ≤ 4095
-phase-high (pos n) d e = leb-true n 4095 e
-phase-high (negsuc n) d e = absurd (true≢false (sym d))
-
-phased-of : (c : Card) → phaseInRange c ≡ true → Phased c
-unfolding phaseInRange
-phased-of c e =
-    let b = both-of (leZ (pos 0) (field c 5)) (leZ (field c 5) (pos 4095)) e in
-    record { low = phase-low (field c 5) (b .0); high = phase-high (field c 5) (b .0) (b .1) }
-
-pub sound-of : (m : Kept) → soundOf m ≡ true → Sound m
-unfolding soundOf
-sound-of m e =
-    let c6 : _ = both-of _ _ e in
-    let c5 : _ = both-of _ _ (c6 .0) in
-    let c4 : _ = both-of _ _ (c5 .0) in
-    let c3 : _ = both-of _ _ (c4 .0) in
-    let c2 : _ = both-of _ _ (c3 .0) in
-    let c1 : _ = both-of _ _ (c2 .0) in
-    record {
-      n-most = leb-true _ _ (c1 .0);
-      taken-most = ltb-true _ _ (c1 .1);
-      room = record { vv = leb-true _ _ (c2 .1); flow = record { ii = leb-true _ _ (c3 .1); vi = leb-true _ _ (c4 .1) } };
-      waiting = phased-of (m .waiting) (c5 .1);
-      force = phased-of (m .force) (c6 .1);
-    }
-
-pub carded-sound : (m : Kept) → carded m ≡ true → Sound m
-unfolding carded
-carded-sound m e = sound-of m (both-of (soundOf m) (m .waits || m .forced) e .0)
+use Rattle.sample.proofs.Tests.{both-of}
+use Rattle.meter.specs.Core.{core, meterOf, keptOf, samplesOf}
+use Rattle.meter.specs.Inside.{fedOf}
+use Rattle.meter.specs.Blocks.{soundOf, nextCard, carded, answered, blockOf}
 
 -- ---- the ways through a block
 -- which card, by the flags
@@ -80,19 +43,19 @@ no-flags true f a b e = absurd (true≢false e)
 no-flags false true a b e = absurd (true≢false e)
 no-flags false false a b e = refl
 
-card-some : (m : Kept) → carded m ≡ true → (c : Card) × (cardOf m ≡ some c)
-unfolding carded cardOf
+card-some : (m : Kept) → carded m ≡ true → (c : Card) × (nextCard m ≡ some c)
+unfolding carded nextCard
 card-some m e =
     let b = both-of (soundOf m) (m .waits || m .forced) e in
     let f = by-flags (m .waits) (m .forced) (m .waiting) (m .force) (b .1) in
-    (f .0, ap (λ (t : Bool). cond t (latest core (seen m)) none) (b .0) ∙ f .1)
+    (f .0, ap (λ (t : Bool). cond t (latest core (meterOf m)) none) (b .0) ∙ f .1)
 
-card-by : (s : Bool) (m : Kept) → s && (m .waits || m .forced) ≡ false → cond s (latest core (seen m)) none ≡ none
+card-by : (s : Bool) (m : Kept) → s && (m .waits || m .forced) ≡ false → cond s (latest core (meterOf m)) none ≡ none
 card-by true m e = no-flags (m .waits) (m .forced) (m .waiting) (m .force) e
 card-by false m e = refl
 
-card-none : (m : Kept) → carded m ≡ false → cardOf m ≡ none
-unfolding carded cardOf
+card-none : (m : Kept) → carded m ≡ false → nextCard m ≡ none
+unfolding carded nextCard
 card-none m e = card-by (soundOf m) m e
 
 module _ (m : Kept) (v i : List ℤ) where
@@ -118,7 +81,7 @@ module _ (m : Kept) (v i : List ℤ) where
 
   refusal : (n : ℕ) → samplesOf v i ≡ refused n → blockOf m v i ≡ record { answer = Refused n; after = m }
   unfolding blockOf
-  refusal n e = ap (λ (r : OrRefusal (List Sample)). answered m (feeds core r (cardOf m) (seen m))) e
+  refusal n e = ap (λ (r : OrRefusal (List Sample)). answered m (feeds core r (nextCard m) (meterOf m))) e
 
   pub block-5 : eqb (length v) (length i) ≡ false → record { answer = Refused 5; after = m } ≡ blockOf m v i
   block-5 e = sym (refusal 5 (unequal e))
@@ -135,8 +98,8 @@ module _ (m : Kept) (v i : List ℤ) where
   module _ (e : eqb (length v) (length i) ≡ true) (l : leb (length v) 4096 ≡ true) (a : every24 v ≡ true) (b : every24 i ≡ true) where
     pub block-18 : carded m ≡ false → record { answer = Refused 18; after = m } ≡ blockOf m v i
     unfolding blockOf
-    block-18 c = sym (ap₂ (λ (r : OrRefusal (List Sample)) (o : Option Card). answered m (feeds core r o (seen m))) (good e l a b) (card-none m c))
+    block-18 c = sym (ap₂ (λ (r : OrRefusal (List Sample)) (o : Option Card). answered m (feeds core r o (meterOf m))) (good e l a b) (card-none m c))
 
     pub block-done : carded m ≡ true → record { answer = Done; after = fedOf m (samplesIn v i) } ≡ blockOf m v i
     unfolding blockOf fedOf
-    block-done c = sym (ap₂ (λ (r : OrRefusal (List Sample)) (o : Option Card). answered m (feeds core r o (seen m))) (good e l a b) (card-some m c .1))
+    block-done c = sym (ap₂ (λ (r : OrRefusal (List Sample)) (o : Option Card). answered m (feeds core r o (meterOf m))) (good e l a b) (card-some m c .1))

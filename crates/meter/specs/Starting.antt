@@ -13,7 +13,7 @@ use Rattle.sample.specs.Sums.{noSums}
 use Rattle.interval.specs.Close.{noneClosed}
 use Rattle.meter.specs.declared.Work.{Work}
 use Rattle.meter.specs.declared.Meter.{Meter}
-use Rattle.meter.specs.declared.Answer.the-variants.{Done, Refused}
+use Rattle.steps.specs.declared.Answer.the-variants.{Done, Refused}
 use Rattle.meter.specs.declared.Stepped.{Stepped}
 
 -- N and B in range
@@ -25,7 +25,7 @@ noCard = record { serial = noSerial; fields = replicate 8 (pos 0) }
 
 -- no interval, counts and remainders 0
 abbrev pub freshWork : ℕ → ℕ → List WordAddr → Work
-freshWork n b track = record { settings = record { n = n; b = b; track = track }; sums = noSums; some = false; last = noneClosed }
+freshWork n b track = record { settings = record { n = n; b = b; track = track }; sums = noSums; any = false; last = noneClosed }
 
 -- and no card
 unfoldable pub freshOf : ℕ → ℕ → List WordAddr → Meter

@@ -1,28 +1,27 @@
 // Samples into intervals: the start, the card that comes into force, and a block.
 ghost use mathlib.Core.Path.{_≡_};
+ghost use mathlib.Core.Bool.{true};
 ghost use Prim.Native.Nat.{_+_, _-_, _≤_, _<_, min};
 ghost use lib.ListN.{length};
-ghost use Rattle.meter.specs.Samples.{samplesIn};
-ghost use Rattle.meter.specs.Sound.{Sound};
-ghost use Rattle.meter.specs.Core.{withSums, closedWork, begunOf, endOf, stretchOf, fedOf};
-ghost use Rattle.meter.specs.Blocks.{soundOf, carded, blockOf};
+ghost use Rattle.sample.specs.Sums.{samplesIn};
+ghost use Rattle.meter.specs.Core.{withSums, closedWork};
+ghost use Rattle.meter.specs.Inside.{begunOf, endOf, stretchOf, fedOf};
+ghost use Rattle.meter.specs.Blocks.{soundOf, carded, waitOf, blockOf};
 ghost use Rattle.meter.specs.Starting.{freshOf, startOf, notStarted};
-
-mod checks;
-mod samples;
-
 use address::WordAddr;
 use card::Card;
 use interval::close::Closed;
 use interval::close::Settings;
 use sample::Sums;
+use sample::samples::phase_in_range;
 use serial::Serial;
+use steps::Answer;
 
-// What outlives an interval, with the sums of the one that runs. some: whether any interval has closed; last: the one that closed last.
+// What outlives an interval, with the sums of the one that runs. any: whether any interval has; last: the one that closed last.
 pub struct Work {
     pub settings: Settings,
     pub sums: Sums,
-    pub some: bool,
+    pub any: bool,
     pub last: Closed,
 }
 
@@ -36,11 +35,7 @@ pub struct Meter {
     pub work: Work,
 }
 
-pub enum Answer {
-    Done,
-    Refused(u8),
-}
-
+// A step's answer, and the meter after it.
 pub struct Stepped {
     pub answer: Answer,
     pub after: Meter,
@@ -55,7 +50,7 @@ impl Work {
         Work {
             settings,
             sums: s,
-            some: self.some,
+            any: self.any,
             last,
         }
     }
@@ -67,12 +62,12 @@ impl Work {
         let settings = self.settings;
         let sums = self.sums;
         let old = self.last;
-        let last = old.next(!self.some, settings, c, sums, settings.n);
+        let last = old.next(!self.any, settings, c, sums, settings.n);
         let none = sums.emptied();
         Work {
             settings,
             sums: none,
-            some: true,
+            any: true,
             last,
         }
     }
@@ -121,21 +116,22 @@ impl Meter {
 
     // Samples of one interval.
     fn stretch(self, v: &[i32], i: &[i32]) -> Meter
-        requires { ⌜ Sound self × (length (now v) ≡ length (now i)) ⌝ }
+        requires { ⌜ (soundOf self ≡ true) × (length (now v) ≡ length (now i)) ⌝ }
         requires { ⌜ self .taken + length (now v) ≤ self .work .settings .n ⌝ }
         ensures { λ r. ⌜ r ≡ stretchOf self (samplesIn (now (v .entry)) (now (i .entry))) ⌝ }
     {
         let m = self.begun();
         let c = m.force;
         let w = m.work;
-        let s = samples::run(w.sums, c, v, i);
+        let old = w.sums;
+        let s = old.with_samples(self.taken, c, v, i);
         let u = w.with_sums(s);
         m.ended(self.taken + v.len() as u32, u)
     }
 
     // How far the running interval reaches, from `at` and at most to `end`.
     fn reach(self, at: usize, end: usize) -> usize
-        requires { ⌜ Sound self × (at < end) ⌝ }
+        requires { ⌜ (soundOf self ≡ true) × (at < end) ⌝ }
         ensures { λ r. ⌜ r ≡ min end (at + (self .work .settings .n - self .taken)) ⌝ }
     {
         let w = self.work;
@@ -146,7 +142,7 @@ impl Meter {
 
     // The samples of two slices, interval by interval.
     fn feed(self, v: &[i32], i: &[i32]) -> Meter
-        requires { ⌜ Sound self × (length (now v) ≡ length (now i)) ⌝ }
+        requires { ⌜ (soundOf self ≡ true) × (length (now v) ≡ length (now i)) ⌝ }
         ensures { λ r. ⌜ r ≡ fedOf self (samplesIn (now (v .entry)) (now (i .entry))) ⌝ }
     {
         let mut m = self;
@@ -159,26 +155,18 @@ impl Meter {
         m
     }
 
-    // Whether the state is one that steps can have made: then no sum of the running interval can overflow.
+    // Whether no sum of the running interval can overflow.
     fn sound(self) -> bool
         ensures { λ r. ⌜ r ≡ soundOf self ⌝ }
     {
         let w = self.work;
         let t = w.settings;
         let s = w.sums;
-        let f = s.flow;
         let k = self.taken;
-        let n = k as u64;
-        let z = number::size(f.vi);
-        let a = checks::phase_in_range(self.waiting);
-        let b = checks::phase_in_range(self.force);
-        (t.n <= 4096)
-            & (k < t.n)
-            & (s.vv / 70368744177664 <= n)
-            & (f.ii / 70368744177664 <= n)
-            & (z / 70368744177664 <= n)
-            & a
-            & b
+        let fits = s.of_at_most(k);
+        let a = phase_in_range(self.waiting);
+        let b = phase_in_range(self.force);
+        (t.n <= 4096) & (k < t.n) & fits & a & b
     }
 
     // Whether a card is in force or waits.
@@ -189,6 +177,15 @@ impl Meter {
             return self.waits | self.forced;
         }
         false
+    }
+
+    // The card waits, replacing any that waits.
+    pub fn wait(mut self, c: Card) -> Meter
+        ensures { λ r. ⌜ r ≡ waitOf c self ⌝ }
+    {
+        self.waits = true;
+        self.waiting = c;
+        self
     }
 
     // A block of samples: 5, 6, 18.
@@ -244,7 +241,7 @@ fn fresh(n: u32, b: u64, track: [WordAddr; 6]) -> Meter
         work: Work {
             settings: Settings { n, b, track },
             sums: Sums::none(),
-            some: false,
+            any: false,
             last: Closed::none(),
         },
     }

@@ -14,7 +14,12 @@ use Rattle.number.proofs.Ranges.{size24}
 use Rattle.sample.specs.declared.Flow.{Flow}
 use Rattle.sample.specs.declared.Sums.{Sums}
 use Rattle.number.specs.Sign.{squareOf}
-use Rattle.sample.specs.Sums.{joined, summed}
+use Rattle.sample.specs.Sums.{Sample, joined, previous, summed, added, addedAll, emptied}
+use Rattle.sample.specs.Fields.{field}
+use Rattle.sample.specs.Sample.{voltage, current, phased}
+use Rattle.sample.proofs.Corrections.{corrected-in, mixed-in}
+use mathlib.Core.List.{List, [], _∷_}
+use lib.ListN.{length}
 use Rattle.sample.specs.Inside.{Flowing, Room, Spare, Phased}
 use Rattle.sample.specs.Inside.{probeOf}
 use Rattle.card.specs.declared.Card.{Card}
@@ -65,3 +70,29 @@ spare-at s j k e h = rw e at h
 pub phase-most : (c : Card) → Phased c → probeOf c .phase ≤ 4095
 unfolding probeOf
 phase-most c h = h .high
+
+-- ---- by a card whose PHASE is in its range
+voltage-in : (c : Card) (x : ℤ) → mag (voltage c x) < 8388608
+unfolding voltage
+voltage-in c x = corrected-in x (field c 1) (field c 3)
+
+current-in : (c : Card) (x : ℤ) → mag (current c x) < 8388608
+unfolding current
+current-in c x = corrected-in x (field c 2) (field c 4)
+
+phased-in : (c : Card) → Phased c → (x y : ℤ) → mag (phased c x y) < 8388608
+unfolding phased
+phased-in c h x y = mixed-in (natAbs (field c 5)) (current c x) (current c y) (omega (arith, h .high)) (current-in c x) (current-in c y)
+
+one-room : (c : Card) → Phased c → (s : Sums) (x : Sample) (k : ℕ) → Room s k → Room (added c s (x .0) (x .1)) (k + 1)
+unfolding added
+one-room c h s x k r = room-more s (voltage c (x .0)) (phased c (x .1) (previous s (x .1))) (x .1) k r (voltage-in c (x .0)) (phased-in c h (x .1) (previous s (x .1)))
+
+pub all-room : (c : Card) → Phased c → (xs : List Sample) (s : Sums) (k : ℕ) → Room s k → Room (addedAll c s xs) (k + length xs)
+unfolding addedAll
+all-room c h [] s k r = room-less s k (k + 0) (omega arith) r
+all-room c h (x ∷ xs) s k r = room-less (addedAll c (added c s (x .0) (x .1)) xs) (k + 1 + length xs) (k + suc (length xs)) (omega arith) (all-room c h xs (added c s (x .0) (x .1)) (k + 1) (one-room c h s x k r))
+
+pub empty-room : (s : Sums) → Room (emptied s) 0
+unfolding emptied
+empty-room s = record { vv = omega arith; flow = record { ii = omega arith; vi = omega arith } }

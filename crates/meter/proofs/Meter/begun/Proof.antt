@@ -1,6 +1,6 @@
 -- `begun` meets its contract.
 use borrow.Author.Tests.{eq-eqb, ne-eqb}
-use Rattle.meter.specs.Core.{begunOf}
+use Rattle.meter.specs.Inside.{begunOf}
 use Rattle.meter.proofs.Meter.begun.Statement.{statement}
 use Rattle.meter.proofs.Meter.begun.Tie as tie
 

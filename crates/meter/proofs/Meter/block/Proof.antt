@@ -2,7 +2,8 @@
 use mathlib.Core.Path.{_≡_, sym, _∙_}
 use denote.Ref.{now}
 use borrow.Author.Tests.{eq-eqb, ne-eqb, le-leb, lt-leb}
-use Rattle.meter.proofs.Ways.{carded-sound, block-done, block-18, block-6-i, block-6-v, block-5-long, block-5}
+use Rattle.meter.proofs.Ways.{block-done, block-18, block-6-i, block-6-v, block-5-long, block-5}
+use Rattle.meter.proofs.Sound.{carded-sound}
 use borrow.Author.Needs.{needs}
 use Rattle.meter.proofs.Meter.block.Statement.{statement}
 use Rattle.meter.proofs.Meter.block.Tie as tie

@@ -1,5 +1,5 @@
 -- `ended` meets its contract.
-use Rattle.meter.specs.Core.{endOf}
+use Rattle.meter.specs.Inside.{endOf}
 use borrow.Author.Needs.{needs}
 use Rattle.meter.proofs.Meter.ended.Statement.{statement}
 use Rattle.meter.proofs.Meter.ended.Tie as tie

@@ -5,10 +5,10 @@ use mathlib.Core.Path.{_≡_, refl, sym, ap, _∙_}
 use borrow.Author.Needs.{needs}
 use denote.Ref.{now}
 use lib.ListN.{length, take, drop, length-take, length-drop}
-use Rattle.meter.specs.Samples.{samplesIn}
-use Rattle.meter.specs.Sound.{Sound}
-use Rattle.meter.specs.Core.{fedOf, stretchOf}
-use Rattle.meter.proofs.Slices.{samples-long, samples-part}
+use Rattle.sample.specs.Sums.{samplesIn}
+use Rattle.meter.proofs.Sound.{Sound, sound-of, sound-yes}
+use Rattle.meter.specs.Inside.{fedOf, stretchOf}
+use Rattle.sample.proofs.Slices.{samples-long, samples-part}
 use Rattle.meter.proofs.Stretches.{fed-more, fed-end}
 use Rattle.meter.proofs.Keeping.{stretch-sound}
 use Rattle.meter.proofs.Meter.feed.Statement.{statement}
@@ -21,10 +21,10 @@ abbrev μ-loop : tie.MeasureT-loop
 μ-loop v i m₀ at₀ m at = length v - at
 
 loop-holds : tie.Need-loop-holds Inv-loop μ-loop
-loop-holds c = (omega arith, c .pre .0, refl)
+loop-holds c = (omega arith, sound-of (c .args .self) (c .pre .0), refl)
 
 reach-requires : tie.Need-reach-requires Inv-loop μ-loop
-reach-requires c κs = (c .before .loop .inv .1, c .loop-test .taken)
+reach-requires c κs = (sound-yes (c .before .loop .m) (c .before .loop .inv .1), c .loop-test .taken)
 
 -- the stretch is not empty, is within the slice and within the interval
 record Span (c : tie.After-reach Inv-loop μ-loop) : Type 0 where
@@ -70,7 +70,7 @@ stretch-requires c κs =
     let top = reach .before .before in
     let s = span reach in
     let e = top .before .pre .1 in
-    simp (length-take, length-drop) ((top .loop .inv .1, omega arith), omega arith)
+    simp (length-take, length-drop) ((sound-yes (top .loop .m) (top .loop .inv .1), omega arith), omega arith)
 
 loop-less : tie.Need-loop-less Inv-loop μ-loop
 loop-less c = omega (arith, span (c .before .before .before))

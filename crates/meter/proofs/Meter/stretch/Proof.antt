@@ -4,9 +4,14 @@ use native.Mathlib.Omega.{arith}
 use mathlib.Core.Path.{_≡_}
 use denote.Ref.{now}
 use lib.ListN.{length}
-use Rattle.meter.specs.Core.{stretchOf}
+use Rattle.meter.specs.Inside.{begunOf, stretchOf}
 use Rattle.meter.proofs.Keeping.{begun-is}
-use Rattle.meter.proofs.Slices.{samples-long}
+use mathlib.Core.Bool.{true}
+use mathlib.Core.Path.{_∙_}
+use Rattle.sample.specs.Sums.{samplesIn, addedAll, ofAtMost}
+use Rattle.sample.proofs.Slices.{samples-long}
+use Rattle.sample.proofs.Tests.{phased-yes, room-yes, joins}
+use Rattle.meter.proofs.Sound.{sound-of}
 use borrow.Author.Needs.{needs}
 use Rattle.meter.proofs.Meter.stretch.Statement.{statement}
 use Rattle.meter.proofs.Meter.stretch.Tie as tie
@@ -14,24 +19,39 @@ use Rattle.meter.proofs.Meter.stretch.Tie as tie
 begun-requires : tie.Need-begun-requires
 begun-requires c κs = search needs
 
-run-requires : tie.Need-run-requires
-run-requires c κs =
-    let start = c .before .before .before in
-    let m = start .args .self in
-    let h = start .pre .0 .0 in
-    let b = begun-is m h in
-    let e = c .before .before .begun .ensures in
-    let few : m .taken + length (now (start .args .v)) ≤ 4096 = omega (arith, h .n-most) in
-    (rw e (b .force), rw (e, b .work) (record { had = m .taken; few = few; room = h .room }), start .pre .0 .1)
+with-samples-requires : tie.Need-with-samples-requires
+with-samples-requires c κs = search needs
+
+-- the samples may join: the interval has room for them
+joined : (c : tie.After-with-samples) →
+    let begun = c .before .before .before .before in
+    let a = begun .before .args in
+    c .with-samples .result ≡ addedAll (begun .begun .result .force) (begun .begun .result .work .sums) (samplesIn (now (a .v)) (now (a .i)))
+joined c =
+    let begun = c .before .before .before .before in
+    let start = begun .before in
+    let a = start .args in
+    let h = sound-of (a .self) (start .pre .0 .0) in
+    let b = begun-is (a .self) h in
+    let e = begun .begun .ensures in
+    let q = begun .begun .result in
+    let sums : ofAtMost (a .self .taken) (q .work .sums) ≡ true =
+    rw (e, b .work) (room-yes (a .self .taken) (a .self .work .sums) (omega (arith, h .n-most, h .taken-most)) (h .room)) in
+    c .with-samples .ensures
+    ∙ joins (a .self .taken) (q .force) (q .work .sums) (now (a .v)) (now (a .i)) (start .pre .0 .1) (omega (arith, h .n-most)) sums (rw e (phased-yes (begunOf (a .self) .force) (b .force)))
 
 with-sums-requires : tie.Need-with-sums-requires
 with-sums-requires c κs = search needs
 
 cast-ended : tie.Need-cast-ended
-cast-ended c = search needs
+cast-ended c =
+    let start = c .before .before .before .before .before .before in
+    record { fits = omega (arith, sound-of (start .args .self) (start .pre .0 .0) .n-most) }
 
 add-ended : tie.Need-add-ended
-add-ended c = search needs
+add-ended c =
+    let start = c .before .before .before .before .before .before .before in
+    record { fits = omega (arith, sound-of (start .args .self) (start .pre .0 .0) .n-most) }
 
 ended-requires : tie.Need-ended-requires
 ended-requires c κs = search needs
@@ -40,17 +60,17 @@ returns : tie.Need-returns
 unfolding stretchOf
 returns c =
     let s = c .before .before in
-    let begun = s .before .before .before .before in
+    let begun = s .before .before .before .before .before in
     let start = begun .before in
     let a = start .args in
-    rw (c .ended .ensures, s .with-sums .ensures, s .before .run .ensures, begun .begun .ensures, samples-long (now (a .v)) (now (a .i)) (start .pre .0 .1))
+    rw (c .ended .ensures, s .with-sums .ensures, joined (s .before), begun .begun .ensures, samples-long (now (a .v)) (now (a .i)) (start .pre .0 .1))
 
 pub stretch-spec : {M : Type 1} → statement M
 stretch-spec =
     tie.close
     (tie.spec
     begun-requires
-    run-requires
+    with-samples-requires
     with-sums-requires
     cast-ended
     add-ended
