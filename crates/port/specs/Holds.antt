@@ -14,11 +14,11 @@ use Rattle.port.specs.declared.holds.Held.{Held}
 
 -- a port where nothing is held
 abbrev pub nothingHeld : Held
-nothingHeld = record { some = false; closed = noneClosed; track = replicate 6 off }
+nothingHeld = record { any = false; closed = noneClosed; track = replicate 6 off }
 
 -- hold: 14. Copies all registers as they stood at the last close, with the words that the slots track; `any`: whether an interval has closed.
 unfoldable pub copyOf : Closed → List WordAddr → Held
-copyOf last track = record { some = true; closed = last; track = track }
+copyOf last track = record { any = true; closed = last; track = track }
 
 unfoldable pub copied : Bool → Closed → List WordAddr → OrRefusal Held
 copied any last track = cond any (accepted (copyOf last track)) (refused 14)

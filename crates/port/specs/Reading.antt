@@ -1,6 +1,5 @@
 -- What a read answers from a hold: the register table's rule.
 use Prim.Native.Nat.{ℕ, _-_, _%_}
-use mathlib.Core.Path.{_≡_, refl}
 use mathlib.Core.Bool.{Bool, cond, _&&_}
 use mathlib.Core.List.{List, [], _∷_, _++_}
 use lib.Dec.{eqb, leb, ltb}
@@ -13,7 +12,6 @@ use Rattle.interval.specs.declared.close.Registers.{Registers}
 use Rattle.address.specs.Addresses.{registerOf}
 use Rattle.address.specs.Slots.{off}
 use Rattle.port.specs.declared.holds.Held.{Held}
-use Rattle.port.specs.Holds.{Value, register, nothingHeld}
 
 -- the 21 registers in the table's order: VRMS and the six figures of source A, PA_POS_CNT and PA_NEG_CNT, MIN1 to MIN6, MAX1 to MAX6
 unfoldable pub registers : Registers → List ℤ
@@ -24,16 +22,12 @@ unfoldable pub slotOff : List WordAddr → ℕ → Bool
 slotOff track k = leb 9 k && eqb (getD track ((k - 9) % 6) off .0) 0
 
 -- read byte address: 15, 16, 17
-unfoldable pub look : Held → ByteAddr → OrRefusal Value
+unfoldable pub look : Held → ByteAddr → OrRefusal ℤ
 look h a =
     let k = registerOf a in
-    cond (h .some)
+    cond (h .any)
     (cond (ltb k 21)
     (cond (slotOff (h .track) k) (refused 17)
-    (accepted (register (getD (registers (h .closed .regs)) k (pos 0)))))
+    (accepted (getD (registers (h .closed .regs)) k (pos 0))))
     (refused 16))
     (refused 15)
-
-pub nothing-refuses : (a : ByteAddr) → (n : ℕ) × (look nothingHeld a ≡ refused n)
-unfolding look
-nothing-refuses a = (15, refl)

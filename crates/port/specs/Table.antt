@@ -11,7 +11,6 @@ use Rattle.address.specs.declared.WordAddr.{WordAddr}
 use Rattle.interval.specs.declared.close.Registers.{Registers}
 use Rattle.address.specs.Slots.{off}
 use Rattle.port.specs.declared.holds.Held.{Held}
-use Rattle.port.specs.Holds.{Value, register}
 use Rattle.port.specs.Reading.{look}
 
 -- for any values of the registers
@@ -28,7 +27,7 @@ module _ (va-rms ia-rms ia-peak watt-a va-a pfa ia-crest : ℤ) (pos-cnt neg-cnt
   }
 
   abbrev pub held : List WordAddr → Held
-  held track = record { some = true; closed = record { number = 1; serial = noSerial; regs = values }; track = track }
+  held track = record { any = true; closed = record { number = 1; serial = noSerial; regs = values }; track = track }
 
   -- the nine registers that are no MIN or MAX
   abbrev pub plainTable : List (ℕ × ℤ)
@@ -51,16 +50,16 @@ module _ (va-rms ia-rms ia-peak watt-a va-a pfa ia-crest : ℤ) (pos-cnt neg-cnt
       ∷ (0x165, max1) ∷ (0x168, max2) ∷ (0x16B, max3) ∷ (0x16E, max4) ∷ (0x171, max5) ∷ (0x174, max6)
       ∷ []
 
-  abbrev pub readAll : List WordAddr → List (ℕ × ℤ) → List (OrRefusal Value)
+  abbrev pub readAll : List WordAddr → List (ℕ × ℤ) → List (OrRefusal ℤ)
   readAll track t = map (λ (e : ℕ × ℤ). look (held track) (record { 0 = e .0 })) t
 
-  abbrev pub toldAll : List (ℕ × ℤ) → List (OrRefusal Value)
-  toldAll t = map (λ (e : ℕ × ℤ). accepted (register (e .1))) t
+  abbrev pub toldAll : List (ℕ × ℤ) → List (OrRefusal ℤ)
+  toldAll t = map (λ (e : ℕ × ℤ). accepted (e .1)) t
 
   -- each byte address gives its register; MIN and MAX of a slot that is off are refused with 17
   pub record TableRead : Type 0 where
     pub all-on : readAll (replicate 6 (record { 0 = 0x2B })) (plainTable ++ slotTable) ≡ toldAll (plainTable ++ slotTable)
     pub all-off : readAll (replicate 6 off) (plainTable ++ slotTable) ≡ toldAll plainTable ++ replicate 12 (refused 17)
     pub third-off : readAll (record { 0 = 0x2B } ∷ record { 0 = 0x2B } ∷ off ∷ record { 0 = 0x2B } ∷ record { 0 = 0x2B } ∷ record { 0 = 0x2B } ∷ []) ((0x156, min2) ∷ (0x159, min3) ∷ (0x16B, max3) ∷ (0x16E, max4) ∷ [])
-        ≡ accepted (register min2) ∷ refused 17 ∷ refused 17 ∷ accepted (register max4) ∷ []
+        ≡ accepted min2 ∷ refused 17 ∷ refused 17 ∷ accepted max4 ∷ []
     pub no-register : readAll (replicate 6 (record { 0 = 0x2B })) ((0x154, pos 0) ∷ (0x2B, pos 0) ∷ (0, pos 0) ∷ []) ≡ replicate 3 (refused 16)

@@ -2,11 +2,11 @@
 ghost use mathlib.Core.Path.{_≡_};
 ghost use Prim.Native.Nat.{_<_};
 ghost use Rattle.steps.specs.Answers.{refused};
-ghost use Rattle.port.specs.Desks.{shutDesk, emptyCard, withField, opening, writing, dropping, allWritten, cardOn};
-ghost use Rattle.port.specs.Answers.{desked};
-use super::answers::Answer;
+ghost use Rattle.port.specs.Desks.{shutDesk, emptyCard, withField, opening, writing, dropping, allWritten, cardOn, finished};
+ghost use Rattle.port.specs.Answers.{desked, finishing};
 use card::Card;
 use serial::Serial;
+use steps::Answer;
 
 // A card in the making: its serial, and for each of the eight fields the value and whether it was written. A shut desk is blank.
 pub struct Desk {
@@ -19,6 +19,13 @@ pub struct Desk {
 // What was done at a desk, and the desk after it: as it came, if refused.
 pub struct Desked {
     pub answer: Answer,
+    pub after: Desk,
+}
+
+// A commit at a desk: the card, and the desk after it, which is shut. If it is refused the card is blank, and the desk as it came.
+pub struct Finished {
+    pub answer: Answer,
+    pub card: Card,
     pub after: Desk,
 }
 
@@ -120,7 +127,7 @@ impl Desk {
     }
 
     // Whether each of the eight fields was written.
-    pub fn all_written(self) -> bool
+    fn all_written(self) -> bool
         ensures { λ r. ⌜ r ≡ allWritten (self .written) ⌝ }
     {
         let w = self.written;
@@ -133,11 +140,42 @@ impl Desk {
         ok
     }
 
-    pub fn card(self) -> Card
+    fn card(self) -> Card
         ensures { λ r. ⌜ r ≡ cardOn self ⌝ }
     {
         let serial = self.serial;
         let fields = self.fields;
         Card { serial, fields }
+    }
+    // Document 01's number, a blank card, and the desk as it came.
+    fn unfinished(self, number: u8) -> Finished
+        ensures { λ r. ⌜ r ≡ finishing self (refused number) ⌝ }
+    {
+        let shut = Desk::shut();
+        let card = shut.card();
+        Finished {
+            answer: Answer::Refused(number),
+            card,
+            after: self,
+        }
+    }
+
+    // Commit: 10, 13.
+    pub fn finish(self) -> Finished
+        ensures { λ r. ⌜ r ≡ finishing self (finished self) ⌝ }
+    {
+        if self.opened {
+            if self.all_written() {
+                let card = self.card();
+                let blank = Desk::shut();
+                return Finished {
+                    answer: Answer::Done,
+                    card,
+                    after: blank,
+                };
+            }
+            return self.unfinished(13);
+        }
+        self.unfinished(10)
     }
 }

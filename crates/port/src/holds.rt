@@ -3,20 +3,33 @@ ghost use mathlib.Core.Path.{_≡_};
 ghost use Prim.Native.Nat.{_<_};
 ghost use lib.IntN.{pos};
 ghost use lib.ListN.{getD};
-ghost use Rattle.port.specs.Holds.{nothingHeld, copyOf};
+ghost use Rattle.port.specs.Holds.{nothingHeld, copied};
 ghost use Rattle.port.specs.Reading.{registers, slotOff, look};
-ghost use Rattle.port.specs.Answers.{looked};
-use super::answers::Answer;
+ghost use Rattle.port.specs.Answers.{copying, looked};
 use address::ByteAddr;
 use address::WordAddr;
 use interval::close::Closed;
 use interval::close::Registers;
+use steps::Answer;
 
-// An interval as it was closed last when the port held, with the words that its slots track. Where nothing is held, all is blank.
+// An interval as it was closed last when the port held, with the words that its slots track. any: whether anything is held; where not, all is
+// blank.
 pub struct Held {
-    pub some: bool,
+    pub any: bool,
     pub closed: Closed,
     pub track: [WordAddr; 6],
+}
+
+// What a hold copies; nothing, if it is refused.
+pub struct Copied {
+    pub answer: Answer,
+    pub held: Held,
+}
+
+// What a read answers: the value of a register, or the number that says no.
+pub enum Reading {
+    Value(i64),
+    Refused(u8),
 }
 
 // Whether the register at place k of the table is the MIN or MAX of a slot that is off.
@@ -71,38 +84,48 @@ impl Held {
     {
         let closed = Closed::none();
         Held {
-            some: false,
+            any: false,
             closed,
             track: [WordAddr(0); 6],
         }
     }
 
-    // All registers as they stood at the last close, and what the slots track.
-    pub fn of(closed: Closed, track: [WordAddr; 6]) -> Held
-        ensures { λ r. ⌜ r ≡ copyOf closed track ⌝ }
+    // Hold: 14. All registers as they stood at the last close, and what the slots track; `any`: whether an interval has closed.
+    pub fn copy(any: bool, last: Closed, track: [WordAddr; 6]) -> Copied
+        ensures { λ r. ⌜ r ≡ copying (copied any last track) ⌝ }
     {
-        Held {
-            some: true,
-            closed,
-            track,
+        if any {
+            return Copied {
+                answer: Answer::Done,
+                held: Held {
+                    any: true,
+                    closed: last,
+                    track,
+                },
+            };
+        }
+        let nothing = Held::nothing();
+        Copied {
+            answer: Answer::Refused(14),
+            held: nothing,
         }
     }
 
     // Read byte address: 15, 16, 17.
-    pub fn look(self, address: ByteAddr) -> Answer
+    pub fn look(self, address: ByteAddr) -> Reading
         ensures { λ r. ⌜ r ≡ looked (look self address) ⌝ }
     {
-        if self.some {
+        if self.any {
             let k = address::register_of(address);
             if k < 21 {
                 let track = self.track;
                 if slot_off(track, k) {
-                    return Answer::Refused(17);
+                    return Reading::Refused(17);
                 }
-                return Answer::Value(register(self.closed.regs, k));
+                return Reading::Value(register(self.closed.regs, k));
             }
-            return Answer::Refused(16);
+            return Reading::Refused(16);
         }
-        Answer::Refused(15)
+        Reading::Refused(15)
     }
 }
