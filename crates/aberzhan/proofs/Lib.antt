@@ -1,11 +1,7 @@
--- Laws of the module's definitions, and the theorems about it.
+-- Laws of the module, what its contracts allow, and that it is what the steps of crate `steps` do.
 pub mod Sides
 pub mod Steps
-pub mod Decided
 pub mod Soundness
+pub mod Decided
+pub mod Contracts
 pub mod Agreement
-pub mod Program
-pub mod Demand3
-pub mod Energy
-pub mod Wholes
-pub mod Day

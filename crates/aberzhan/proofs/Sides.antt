@@ -8,7 +8,7 @@ use lib.IntN.{ℤ, pos, negsuc}
 use lib.Dec.{leb}
 use borrow.Author.Tests.{leb-true}
 use Rattle.serial.proofs.Every.{and-right}
-use Rattle.aberzhan.specs.Ports.{portAt}
+use Rattle.aberzhan.specs.Module.{portAt}
 use Rattle.aberzhan.specs.Inside.{isPort, sideOf}
 
 -- 0 and 1 name their ports

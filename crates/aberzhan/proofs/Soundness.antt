@@ -11,7 +11,7 @@ use lib.Seq.{getD-set-same, getD-set-other, set-out}
 use borrow.Author.Tests.{leb-true, ltb-true, ltb-false, eqb-true, eqb-false}
 use Rattle.steps.specs.Answers.{refused, accepted}
 use Rattle.steps.specs.Gauge.{latest}
-use Rattle.steps.specs.Calls.{Sound}
+use Rattle.steps.proofs.Sound.{Sound}
 use Rattle.steps.proofs.Outcomes.{refused-never, accepted-is}
 use Rattle.serial.specs.declared.Serial.{Serial}
 use Rattle.card.specs.declared.Card.{Card}
@@ -20,10 +20,11 @@ use Rattle.serial.specs.Serials.{isSerial, serialOf}
 use Rattle.card.specs.Fields.{lows, highs, isField, fitsField, fieldInRange}
 use Rattle.address.specs.declared.WordAddr.{WordAddr}
 use Rattle.address.specs.Slots.{off, everySlot}
-use Rattle.meter.specs.Sound.{Phased, Sound as SoundMeter}
-use Rattle.meter.specs.Core.{core, samplesOf, kept as keptMeter}
+use Rattle.sample.specs.Inside.{Phased}
+use Rattle.meter.proofs.Sound.{Sound as SoundMeter}
+use Rattle.meter.specs.Core.{core, samplesOf, keptOf}
 use Rattle.meter.specs.Starting.{numbersOk, freshOf, notStarted, startOf as meterStart}
-use Rattle.meter.specs.declared.Answer.the-variants.{Done as MeterDone}
+use Rattle.steps.specs.declared.Answer.the-variants.{Done}
 use Rattle.meter.proofs.Agreement.{feeds-sound, wait-sound}
 use Rattle.meter.proofs.Starts.{numbers-in}
 use Rattle.port.specs.declared.desks.Desk.{Desk}
@@ -95,7 +96,7 @@ finished-phased d c i q = card-phased (d .opened) (allWritten (d .written)) (car
 -- ---- the steps keep it
 abbrev pub sounds : Sound aberzhan
 sounds = record {
-  OfMeter = λ m. SoundMeter (keptMeter m);
+  OfMeter = λ m. SoundMeter (keptOf m);
   OfCard = Phased;
   OfDesk = λ d. Phased (cardOn d);
   shut-sound = shut-phased;
@@ -108,7 +109,7 @@ sounds = record {
 -- ---- what a start returns is a fresh module, taken or refused
 start-by : (P : Module → Type 0) → ((n b : ℕ) (track : List WordAddr) → 1 ≤ n → n ≤ 4096 → P (freshModule (freshOf n b track))) →
     (n b : ℤ) (track : List WordAddr) (s t : Bool) → numbersOk n b ≡ s →
-    P (freshModule (cond (s && t) (record { answer = MeterDone; after = freshOf (natAbs n) (natAbs b) track }) notStarted .after))
+    P (freshModule (cond (s && t) (record { answer = Done; after = freshOf (natAbs n) (natAbs b) track }) notStarted .after))
 start-by P f n b track true true e = let r = numbers-in n b e .0 in f (natAbs n) (natAbs b) track (r .1) (r .2)
 start-by P f n b track true false e = f 1 1 (replicate 6 off) (lit≤ tt) (lit≤ tt)
 start-by P f n b track false t e = f 1 1 (replicate 6 off) (lit≤ tt) (lit≤ tt)

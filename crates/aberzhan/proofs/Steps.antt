@@ -1,118 +1,117 @@
--- Laws of the steps, one for each way through: what the code puts together is what the step's definition gives.
+-- Laws of the steps: what the code puts together at a port is what the step's definition gives.
 use Prim.Native.Nat.{ℕ}
 use mathlib.Core.Path.{_≡_, refl, sym, ap, _∙_}
-use mathlib.Core.Bool.{Bool, true, false, cond}
+use mathlib.Core.Bool.{true, false}
 use mathlib.Core.List.{List}
 use mathlib.Core.Option.{Option}
 use lib.IntN.{ℤ}
-use Rattle.steps.specs.Answers.{OrRefusal, refused, accepted, andThen}
-use Rattle.steps.specs.Port.{Port, port0, port1, on}
-use Rattle.steps.specs.Module.{Op, edit, commit, dropCard, hold, read, atPort, withDesk, didEdit, didCommit, didDrop, didHold, didRead, stepAt, step}
+use Rattle.steps.specs.Answers.{OrRefusal, refused, accepted}
+use Rattle.steps.specs.Port.{Port, port0, port1}
+use Rattle.steps.specs.declared.Answer.the-variants.{Refused}
 use Rattle.card.specs.declared.Card.{Card}
 use Rattle.address.specs.declared.ByteAddr.{ByteAddr}
-use Rattle.port.specs.declared.answers.Answer.the-variants.{Done, Refused}
 use Rattle.port.specs.declared.desks.Desk.{Desk}
 use Rattle.port.specs.declared.holds.Held.{Held}
-use Rattle.aberzhan.specs.declared.Module.{Module}
-use Rattle.aberzhan.specs.declared.Stepped.{Stepped}
-use Rattle.aberzhan.specs.declared.Holding.{Holding}
-use Rattle.port.specs.Desks.{openWith, writeField, opening, writing, shutDesk, finished, discarded, dropping, allWritten, cardOn}
-use Rattle.port.specs.Holds.{Value, copyOf, copied}
+use Rattle.port.specs.declared.holds.Reading.the-variants.{Refused as NotRead}
+use Rattle.port.specs.Desks.{opening, writing, finished, dropping}
+use Rattle.port.specs.Holds.{copied}
 use Rattle.port.specs.Reading.{look}
-use Rattle.aberzhan.specs.Ports.{aberzhan, portAt}
-use Rattle.port.specs.Answers.{desked, looked}
-use Rattle.aberzhan.specs.Module.{seen, kept, stepped, holding, notHeld, openOf, writeOf, commitOf, dropOf, holdOf, readOf}
-use Rattle.aberzhan.specs.Inside.{isPort, sideOf, deskAt, holdAt, deskPut, holdPut, waitPut, editedAt}
+use Rattle.port.specs.Answers.{desked, finishing, copying, looked}
+use Rattle.aberzhan.specs.declared.Module.{Module}
+use Rattle.aberzhan.specs.declared.Looked.{Looked}
+use Rattle.aberzhan.specs.Module.{deskOf, heldOf, withDesk, portAt, atPort, refusal, atDesk, committing, notHeld, holding, openOf, writeOf, commitOf, dropOf, holdOf, readOf}
+use Rattle.aberzhan.specs.Inside.{isPort, sideOf, deskAt, holdAt, deskPut, holdPut, deskDid, committed, held}
 use Rattle.aberzhan.proofs.Sides.{at-side, no-side}
 
--- ---- commit of a desk
-pub finished-whole : (d : Desk) → d .opened ≡ true → allWritten (d .written) ≡ true → finished d ≡ accepted (cardOn d)
-unfolding finished
-finished-whole d o w = simp (o, w)
-
-pub finished-13 : (d : Desk) → d .opened ≡ true → allWritten (d .written) ≡ false → finished d ≡ refused 13
-unfolding finished
-finished-13 d o w = simp (o, w)
-
-pub finished-10 : (d : Desk) → d .opened ≡ false → finished d ≡ refused 10
-unfolding finished
-finished-10 d o = simp o
-
--- ---- the steps, for the port s
-abbrev doneAt : Module → Port → OrRefusal Desk → Stepped
-doneAt m s q = let e = desked (on (seen m .desks) s) q in record { answer = e .answer; after = kept (withDesk aberzhan s (e .after) (seen m)) }
-
-edit-side : (m : Module) (s : Port) (q : OrRefusal Desk) → doneAt m s q ≡ stepped m (andThen q (didEdit aberzhan s (seen m)))
-edit-side m port0 (refused n) = refl
-edit-side m port1 (refused n) = refl
-edit-side m s (accepted d) = refl
-
-drop-side : (m : Module) (s : Port) (q : OrRefusal (Unit {0})) → doneAt m s (andThen q (λ u. shutDesk)) ≡ stepped m (andThen q (didDrop aberzhan s (seen m)))
-drop-side m port0 (refused n) = refl
-drop-side m port1 (refused n) = refl
-drop-side m s (accepted u) = refl
-
-read-side : (m : Module) (s : Port) (a : ByteAddr) (q : OrRefusal Value) →
-    _≡_ {A = Stepped} (record { answer = looked q; after = m }) (stepped m (andThen q (didRead aberzhan s a (seen m))))
-read-side m s a (refused n) = refl
-read-side m s a (accepted v) = refl
+-- a desk put back where it stood
+same-desk : (m : Module) (s : Port) → withDesk s (deskOf m s) m ≡ m
+same-desk m port0 = refl
+same-desk m port1 = refl
 
 module _ (m : Module) (p : ℤ) where
-  -- ---- 8, for every step
-  pub refused-8 : (op : Op aberzhan) → isPort p ≡ false → _≡_ {A = Stepped} (record { answer = Refused 8; after = m }) (stepped m (step aberzhan (atPort (portAt p) op) (seen m)))
-  refused-8 op h = ap (λ (o : Option Port). stepped m (step aberzhan (atPort o op) (seen m))) (sym (no-side p h))
+  -- ---- what is done at the port
+  desk-did : (q : OrRefusal Desk) → deskDid m p (desked (deskAt m p) q) ≡ atDesk m (sideOf p) q
+  unfolding deskDid deskPut deskAt
+  desk-did (refused n) = ap (refusal n) (same-desk m (sideOf p))
+  desk-did (accepted d) = refl
+
+  committed-is : (q : OrRefusal Card) → committed m p (finishing (deskAt m p) q) ≡ committing m (sideOf p) q
+  unfolding committed deskPut
+  committed-is (refused n) = refl
+  committed-is (accepted c) = refl
+
+  held-is : (q : OrRefusal Held) → held m p (copying q) ≡ holding m (sideOf p) q
+  unfolding held holdPut
+  held-is (refused n) = refl
+  held-is (accepted h) = refl
+
+  -- ---- the number names a port, or none
+  module _ {A : Type 0} (refusing : A) (act : Port → A) where
+    at-port : isPort p ≡ true → atPort (portAt p) refusing act ≡ act (sideOf p)
+    at-port h = ap (λ (o : Option Port). atPort o refusing act) (at-side p h)
+
+    no-port : isPort p ≡ false → atPort (portAt p) refusing act ≡ refusing
+    no-port h = ap (λ (o : Option Port). atPort o refusing act) (no-side p h)
 
   module _ (h : isPort p ≡ true) where
-    at-port : (op : Op aberzhan) → stepped m (stepAt aberzhan (sideOf p) op (seen m)) ≡ stepped m (step aberzhan (atPort (portAt p) op) (seen m))
-    at-port op = ap (λ (o : Option Port). stepped m (step aberzhan (atPort o op) (seen m))) (sym (at-side p h))
+    pub opens : (text : List ℕ) → deskDid m p (desked (deskAt m p) (opening (deskAt m p) text)) ≡ openOf m p text
+    unfolding openOf deskAt
+    opens text = desk-did (opening (deskAt m p) text) ∙ sym (at-port (refusal 8 m) (λ s. atDesk m s (opening (deskOf m s) text)) h)
 
-    -- a commit, by what the desk says
-    pub commits : (c : Card) → finished (deskAt m p) ≡ accepted c → _≡_ {A = Stepped} (record { answer = Done; after = waitPut (deskPut m p shutDesk) c }) (commitOf m p)
-    unfolding commitOf waitPut deskPut deskAt
-    commits c e = ap (λ (q : OrRefusal Card). stepped m (andThen q (didCommit aberzhan (sideOf p) (seen m)))) (sym e) ∙ at-port commit
+    pub writes : (field v : ℤ) → deskDid m p (desked (deskAt m p) (writing (deskAt m p) field v)) ≡ writeOf m p field v
+    unfolding writeOf deskAt
+    writes field v = desk-did (writing (deskAt m p) field v) ∙ sym (at-port (refusal 8 m) (λ s. atDesk m s (writing (deskOf m s) field v)) h)
 
-    pub commit-refused : (n : ℕ) → finished (deskAt m p) ≡ refused n → _≡_ {A = Stepped} (record { answer = Refused n; after = m }) (commitOf m p)
+    pub commits : committed m p (finishing (deskAt m p) (finished (deskAt m p))) ≡ commitOf m p
     unfolding commitOf deskAt
-    commit-refused n e = ap (λ (q : OrRefusal Card). stepped m (andThen q (didCommit aberzhan (sideOf p) (seen m)))) (sym e) ∙ at-port commit
+    commits = committed-is (finished (deskAt m p)) ∙ sym (at-port (refusal 8 m) (λ s. committing m s (finished (deskOf m s))) h)
 
-    pub reads : (a : ByteAddr) → _≡_ {A = Stepped} (record { answer = looked (look (holdAt m p) a); after = m }) (readOf m p a)
-    unfolding readOf holdAt
-    reads a = read-side m (sideOf p) a (look (holdAt m p) a) ∙ at-port (read a)
+    pub drops : deskDid m p (desked (deskAt m p) (dropping (deskAt m p))) ≡ dropOf m p
+    unfolding dropOf deskAt
+    drops = desk-did (dropping (deskAt m p)) ∙ sym (at-port (refusal 8 m) (λ s. atDesk m s (dropping (deskOf m s))) h)
 
-    -- a hold
-    held-at : (q : OrRefusal Held) → let w = m .meter .work in copied (w .some) (w .last) (w .settings .track) ≡ q → holding m (andThen q (didHold aberzhan (sideOf p) tt (seen m))) ≡ holdOf m p
+    pub holds : let w = m .meter .work in held m p (copying (copied (w .any) (w .last) (w .settings .track))) ≡ holdOf m p
     unfolding holdOf
-    held-at q e =
-        ap (λ (q : OrRefusal Held). holding m (andThen q (didHold aberzhan (sideOf p) tt (seen m)))) (sym e)
-        ∙ ap (λ (o : Option Port). holding m (step aberzhan (atPort o (hold tt)) (seen m))) (sym (at-side p h))
+    holds =
+        let w = m .meter .work in
+        let q = copied (w .any) (w .last) (w .settings .track) in
+        held-is q ∙ sym (at-port (notHeld 8 m) (λ s. holding m s q) h)
 
-    pub holds : m .meter .work .some ≡ true → let k = copyOf (m .meter .work .last) (m .meter .work .settings .track) in
-        _≡_ {A = Holding} (record { answer = Done; number = k .closed .number; serial = k .closed .serial; after = holdPut m p k }) (holdOf m p)
-    unfolding holdPut copied
-    holds e = held-at (accepted (copyOf (m .meter .work .last) (m .meter .work .settings .track))) (simp e)
+    pub reads : (a : ByteAddr) → _≡_ {A = Looked} (record { answer = looked (look (holdAt m p) a); after = m }) (readOf m p a)
+    unfolding readOf holdAt
+    reads a = sym (ap (λ (o : Option Port). readBy o) (at-side p h))
+      where
+        readBy : Option Port → Looked
+        readBy o = record { answer = atPort o (NotRead 8) (λ s. looked (look (heldOf m s) a)); after = m }
 
-    pub hold-14 : m .meter .work .some ≡ false → notHeld 14 m ≡ holdOf m p
-    unfolding copied
-    hold-14 e = held-at (refused 14) (simp e)
+  -- ---- 8, for every step
+  module _ (h : isPort p ≡ false) where
+    pub open-8 : (text : List ℕ) → refusal 8 m ≡ openOf m p text
+    unfolding openOf
+    open-8 text = sym (no-port (refusal 8 m) (λ s. atDesk m s (opening (deskOf m s) text)) h)
 
-  -- what was done at the port's desk: q, which is the step's outcome there
-  at-desk : (op : Op aberzhan) (q : OrRefusal Desk) → doneAt m (sideOf p) q ≡ stepped m (stepAt aberzhan (sideOf p) op (seen m)) → (b : Bool) → isPort p ≡ b →
-      cond b (doneAt m (sideOf p) q) (stepped m (refused 8)) ≡ stepped m (step aberzhan (atPort (portAt p) op) (seen m))
-  at-desk op q e true h = e ∙ at-port h op
-  at-desk op q e false h = refused-8 op h
+    pub write-8 : (field v : ℤ) → refusal 8 m ≡ writeOf m p field v
+    unfolding writeOf
+    write-8 field v = sym (no-port (refusal 8 m) (λ s. atDesk m s (writing (deskOf m s) field v)) h)
 
-  pub opens : (text : List ℕ) → editedAt m p (desked (deskAt m p) (opening (deskAt m p) text)) ≡ openOf m p text
-  unfolding openOf editedAt deskPut deskAt
-  opens text = let q = opening (deskAt m p) text in at-desk (edit (openWith text)) q (edit-side m (sideOf p) q) (isPort p) refl
+    pub commit-8 : refusal 8 m ≡ commitOf m p
+    unfolding commitOf
+    commit-8 = sym (no-port (refusal 8 m) (λ s. committing m s (finished (deskOf m s))) h)
 
-  pub writes : (field v : ℤ) → editedAt m p (desked (deskAt m p) (writing (deskAt m p) field v)) ≡ writeOf m p field v
-  unfolding writeOf editedAt deskPut deskAt
-  writes field v = let q = writing (deskAt m p) field v in at-desk (edit (writeField field v)) q (edit-side m (sideOf p) q) (isPort p) refl
+    pub drop-8 : refusal 8 m ≡ dropOf m p
+    unfolding dropOf
+    drop-8 = sym (no-port (refusal 8 m) (λ s. atDesk m s (dropping (deskOf m s))) h)
 
-  pub drops : editedAt m p (desked (deskAt m p) (dropping (deskAt m p))) ≡ dropOf m p
-  unfolding dropOf editedAt deskPut deskAt
-  drops = at-desk dropCard (dropping (deskAt m p)) (drop-side m (sideOf p) (discarded (deskAt m p))) (isPort p) refl
+    pub hold-8 : notHeld 8 m ≡ holdOf m p
+    unfolding holdOf
+    hold-8 =
+        let w = m .meter .work in
+        let q = copied (w .any) (w .last) (w .settings .track) in
+        sym (no-port (notHeld 8 m) (λ s. holding m s q) h)
 
-  pub hold-8 : isPort p ≡ false → notHeld 8 m ≡ holdOf m p
-  unfolding holdOf
-  hold-8 h = ap (λ (o : Option Port). holding m (step aberzhan (atPort o (hold tt)) (seen m))) (sym (no-side p h))
+    pub read-8 : (a : ByteAddr) → _≡_ {A = Looked} (record { answer = NotRead 8; after = m }) (readOf m p a)
+    unfolding readOf
+    read-8 a = sym (ap (λ (o : Option Port). readBy o) (no-side p h))
+      where
+        readBy : Option Port → Looked
+        readBy o = record { answer = atPort o (NotRead 8) (λ s. looked (look (heldOf m s) a)); after = m }

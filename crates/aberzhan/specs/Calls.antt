@@ -1,24 +1,47 @@
--- A program's calls of the module's methods, one after the other. What a call returns is what its method's contract says.
-use Prim.Native.Nat.{ℕ, suc}
+-- A program's calls of the module's methods: the step that a call asks for, and what the definitions say that it returns.
+use Prim.Native.Nat.{ℕ}
 use mathlib.Core.List.{List, [], _∷_}
 use mathlib.Core.Option.{Option, none, some}
 use lib.IntN.{ℤ, pos}
-use Rattle.steps.specs.Port.{Port, port0, port1, PerPort, on, putOn, onBoth}
-use Rattle.steps.specs.Module.{Op, edit, commit, dropCard, hold, read, Step, atPort, block}
-use Rattle.steps.specs.Calls.{Reply, refuses, done, returns}
+use Rattle.steps.specs.Port.{Port, port0, port1}
+use Rattle.steps.specs.Module.{edit, commit, dropCard, hold, read, Step, atPort, block, State}
+use Rattle.steps.specs.Calls.{Reply, refuses, done, returns, Log, noneCalled, noted}
+use Rattle.steps.specs.declared.Answer.{Answer}
+use Rattle.steps.specs.declared.Answer.the-variants.{Done, Refused}
 use Rattle.serial.specs.declared.Serial.{Serial}
 use Rattle.address.specs.declared.ByteAddr.{ByteAddr}
-use Rattle.port.specs.declared.answers.Answer.{Answer}
-use Rattle.port.specs.declared.answers.Answer.the-variants.{Done, Value, Refused}
+use Rattle.meter.specs.Core.{meterOf, keptOf}
+use Rattle.port.specs.declared.holds.Reading.{Reading}
+use Rattle.port.specs.declared.holds.Reading.the-variants.{Value as ReadOut, Refused as NotRead}
+use Rattle.port.specs.Desks.{openWith, writeField}
+use Rattle.port.specs.Holds.{interval, register}
 use Rattle.aberzhan.specs.declared.Module.{Module}
 use Rattle.aberzhan.specs.declared.Stepped.{Stepped}
 use Rattle.aberzhan.specs.declared.Holding.{Holding}
-use Rattle.port.specs.Desks.{openWith, writeField}
-use Rattle.port.specs.Holds.{Value as Told, interval, register}
-use Rattle.aberzhan.specs.Ports.{aberzhan, portAt}
-use Rattle.aberzhan.specs.Module.{openOf, writeOf, commitOf, dropOf, holdOf, readOf, blockOf}
+use Rattle.aberzhan.specs.declared.Looked.{Looked}
+use Rattle.aberzhan.specs.Ports.{aberzhan}
+use Rattle.aberzhan.specs.Module.{portAt, openOf, writeOf, commitOf, dropOf, holdOf, readOf, blockOf}
 
--- a call, with the numbers as the caller gives them
+-- ---- the struct as the state of crate `steps`, and back
+
+abbrev pub stateOf : Module → State aberzhan
+stateOf m = record {
+  meter = meterOf (m .meter);
+  desks = record { on0 = m .desk0; on1 = m .desk1 };
+  holds = record { on0 = m .hold0; on1 = m .hold1 };
+}
+
+abbrev pub moduleOf : State aberzhan → Module
+moduleOf s = record {
+  meter = keptOf (s .meter);
+  desk0 = s .desks .on0;
+  desk1 = s .desks .on1;
+  hold0 = s .holds .on0;
+  hold1 = s .holds .on1;
+}
+
+-- ---- a call, with the numbers as the caller gives them
+
 pub data Call : Type 0 where
   callOpen : ℤ → List ℕ → Call  -- port, the serial's text
   callWrite : ℤ → ℤ → ℤ → Call  -- port, field, value
@@ -26,8 +49,7 @@ pub data Call : Type 0 where
   callRead : ℤ → ByteAddr → Call  -- port, byte address
   callBlock : List ℤ → List ℤ → Call  -- voltage, current
 
--- ---- the step that a call asks for, and a call that asks for a step
-
+-- the step that a call asks for, and a call that asks for a step
 abbrev pub stepOf : Call → Step aberzhan
 stepOf (callOpen p text) = atPort (portAt p) (edit (openWith text))
 stepOf (callWrite p field v) = atPort (portAt p) (edit (writeField field v))
@@ -52,19 +74,22 @@ callOf (atPort o (hold k)) = callHold (numberOf o)
 callOf (atPort o (read a)) = callRead (numberOf o) a
 callOf (block b) = callBlock (b .0) (b .1)
 
--- ---- what a call returns
+-- ---- what a call returns: the reply and the module after it
 
--- the number that says no, the value of a register, or the word that it is done
+-- the number that says no, or the word that it is done
 abbrev pub replyOf : Answer → Reply aberzhan
 replyOf Done = done
-replyOf (Value v) = returns (register v)
 replyOf (Refused n) = refuses n
 
 -- a hold that is done returns the interval's number and serial
 abbrev pub heldReply : Answer → ℕ → Serial → Reply aberzhan
 heldReply Done n s = returns (interval n s)
-heldReply (Value v) n s = returns (register v)
 heldReply (Refused r) n s = refuses r
+
+-- a read returns the value of a register
+abbrev pub readReply : Reading → Reply aberzhan
+readReply (ReadOut v) = returns (register v)
+readReply (NotRead n) = refuses n
 
 abbrev pub fromStep : Stepped → Reply aberzhan × Module
 fromStep r = (replyOf (r .answer), r .after)
@@ -72,30 +97,19 @@ fromStep r = (replyOf (r .answer), r .after)
 abbrev pub fromHold : Holding → Reply aberzhan × Module
 fromHold r = (heldReply (r .answer) (r .number) (r .serial), r .after)
 
+abbrev pub fromRead : Looked → Reply aberzhan × Module
+fromRead r = (readReply (r .answer), r .after)
+
 abbrev pub returned : Call → Module → Reply aberzhan × Module
 returned (callOpen p text) m = fromStep (openOf m p text)
 returned (callWrite p field v) m = fromStep (writeOf m p field v)
 returned (callCommit p) m = fromStep (commitOf m p)
 returned (callDrop p) m = fromStep (dropOf m p)
 returned (callHold p) m = fromHold (holdOf m p)
-returned (callRead p a) m = fromStep (readOf m p a)
+returned (callRead p a) m = fromRead (readOf m p a)
 returned (callBlock v i) m = fromStep (blockOf m v i)
 
--- ---- a program: calls, one after the other, each with the module that the one before returned
-
-pub record Log : Type 0 where
-  pub refusals : ℕ  -- how many were refused
-  pub heard : PerPort (List (Op aberzhan × Told))  -- each port's holds and reads with the values that they returned
-  pub end : Module
-
--- (only a hold or a read at a port returns a value: the last two cases do not occur)
-abbrev pub noted : Step aberzhan → Reply aberzhan → Log → Log
-noted x (refuses n) l = record { refusals = suc (l .refusals); heard = l .heard; end = l .end }
-noted x done l = l
-noted (atPort (some p) op) (returns v) l = record { refusals = l .refusals; heard = putOn p ((op, v) ∷ on (l .heard) p) (l .heard); end = l .end }
-noted (atPort none op) (returns v) l = l
-noted (block b) (returns v) l = l
-
-abbrev pub program : List Call → Module → Log
-program [] m = record { refusals = 0; heard = onBoth []; end = m }
-program (k ∷ ks) m = let r = returned k m in noted (stepOf k) (r .0) (program ks (r .1))
+-- calls, one after the other, each with the module that the one before returned
+abbrev pub program : List Call → Module → Log aberzhan Module
+program [] m = noneCalled aberzhan Module m
+program (k ∷ ks) m = let r = returned k m in noted aberzhan Module (stepOf k) (r .0) (program ks (r .1))

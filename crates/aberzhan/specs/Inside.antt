@@ -1,20 +1,20 @@
--- What the module's own functions do for a port that is 0 or 1: find its desk or hold, and put another there.
+-- What the module's own functions do for a port that is 0 or 1. No public contract rests on it.
 use mathlib.Core.Bool.{Bool, _&&_, cond}
 use lib.IntN.{ℤ, pos}
 use lib.Signed.{leZ, ltZ}
-use Rattle.steps.specs.Answers.{refused}
-use Rattle.steps.specs.Port.{Port, port0, port1, on}
-use Rattle.steps.specs.Module.{withMeter, withDesk, withHeld}
-use Rattle.steps.specs.Gauge.{waitsFor}
-use Rattle.card.specs.declared.Card.{Card}
-use Rattle.meter.specs.Core.{core, seen as seenMeter}
+use Rattle.steps.specs.Port.{Port, port0, port1}
+use Rattle.steps.specs.declared.Answer.{Answer}
+use Rattle.steps.specs.declared.Answer.the-variants.{Done, Refused}
+use Rattle.meter.specs.Blocks.{waitOf}
 use Rattle.port.specs.declared.desks.Desk.{Desk}
 use Rattle.port.specs.declared.desks.Desked.{Desked}
+use Rattle.port.specs.declared.desks.Finished.{Finished}
 use Rattle.port.specs.declared.holds.Held.{Held}
+use Rattle.port.specs.declared.holds.Copied.{Copied}
 use Rattle.aberzhan.specs.declared.Module.{Module}
 use Rattle.aberzhan.specs.declared.Stepped.{Stepped}
-use Rattle.aberzhan.specs.Ports.{aberzhan}
-use Rattle.aberzhan.specs.Module.{seen, kept, stepped}
+use Rattle.aberzhan.specs.declared.Holding.{Holding}
+use Rattle.aberzhan.specs.Module.{deskOf, heldOf, withDesk, withHeld, withMeter, refusal, notHeld}
 
 unfoldable pub isPort : ℤ → Bool
 isPort p = leZ (pos 0) p && leZ p (pos 1)
@@ -24,22 +24,33 @@ unfoldable pub sideOf : ℤ → Port
 sideOf p = cond (ltZ p (pos 1)) port0 port1
 
 unfoldable pub deskAt : Module → ℤ → Desk
-deskAt m port = on (seen m .desks) (sideOf port)
+deskAt m port = deskOf m (sideOf port)
 
 unfoldable pub holdAt : Module → ℤ → Held
-holdAt m port = on (seen m .holds) (sideOf port)
+holdAt m port = heldOf m (sideOf port)
 
 unfoldable pub deskPut : Module → ℤ → Desk → Module
-deskPut m port d = kept (withDesk aberzhan (sideOf port) d (seen m))
+deskPut m port d = withDesk (sideOf port) d m
 
 unfoldable pub holdPut : Module → ℤ → Held → Module
-holdPut m port h = kept (withHeld aberzhan (sideOf port) h (seen m))
+holdPut m port h = withHeld (sideOf port) h m
 
-unfoldable pub waitPut : Module → Card → Module
-waitPut m c = kept (withMeter aberzhan (waitsFor core c (seenMeter (m .meter))) (seen m))
+-- what was done at the port's desk
+unfoldable pub deskDid : Module → ℤ → Desked → Stepped
+deskDid m port did = record { answer = did .answer; after = deskPut m port (did .after) }
 
--- what was done at a port's desk; 8 if it is no port
-unfoldable pub editedAt : Module → ℤ → Desked → Stepped
-editedAt m port did =
-    cond (isPort port) (record { answer = did .answer; after = deskPut m port (did .after) })
-    (stepped m (refused 8))
+-- what comes of a commit there
+abbrev pub committedBy : Answer → Module → ℤ → Finished → Stepped
+committedBy Done m port f = record { answer = Done; after = withMeter (waitOf (f .card) (m .meter)) (deskPut m port (f .after)) }
+committedBy (Refused n) m port f = refusal n m
+
+unfoldable pub committed : Module → ℤ → Finished → Stepped
+committed m port f = committedBy (f .answer) m port f
+
+-- and of a hold
+abbrev pub heldBy : Answer → Module → ℤ → Held → Holding
+heldBy Done m port h = record { answer = Done; number = h .closed .number; serial = h .closed .serial; after = holdPut m port h }
+heldBy (Refused n) m port h = notHeld n m
+
+unfoldable pub held : Module → ℤ → Copied → Holding
+held m port c = heldBy (c .answer) m port (c .held)

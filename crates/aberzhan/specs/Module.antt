@@ -1,121 +1,121 @@
--- The module as the code keeps it, and what each of its steps returns: the step of crate `steps`, seen as the code keeps it.
+-- The module as the code keeps it, and what each of its steps returns; refusals in document 01's order. A refused step returns the module as it came.
 use Prim.Native.Nat.{ℕ}
-use mathlib.Core.Path.{_≡_, refl}
 use mathlib.Core.List.{List}
-use lib.IntN.{ℤ}
-use Rattle.steps.specs.Answers.{refused, accepted}
-use Rattle.steps.specs.Module.{Op, edit, commit, dropCard, hold, read, atPort, State, fresh, withMeter, Report, silent, commits, tells, closes, Outcome, step}
+use mathlib.Core.Option.{Option, none, some}
+use lib.IntN.{ℤ, pos, negsuc}
+use Rattle.steps.specs.Answers.{OrRefusal, refused, accepted}
+use Rattle.steps.specs.Port.{Port, port0, port1, portOf}
+use Rattle.steps.specs.declared.Answer.the-variants.{Done, Refused}
 use Rattle.serial.specs.declared.Serial.{Serial}
 use Rattle.serial.specs.Serials.{noSerial}
+use Rattle.card.specs.declared.Card.{Card}
 use Rattle.address.specs.declared.WordAddr.{WordAddr}
 use Rattle.address.specs.declared.ByteAddr.{ByteAddr}
 use Rattle.meter.specs.declared.Meter.{Meter}
-use Rattle.meter.specs.Core.{seen as seenMeter, kept as keptMeter}
-use Rattle.meter.specs.Blocks.{blockOf as meterBlock}
+use Rattle.meter.specs.Blocks.{waitOf, blockOf as meterBlock}
 use Rattle.meter.specs.Starting.{startOf as meterStart}
-use Rattle.port.specs.declared.answers.Answer.{Answer}
-use Rattle.port.specs.declared.answers.Answer.the-variants.{Done, Refused}
+use Rattle.port.specs.declared.desks.Desk.{Desk}
+use Rattle.port.specs.declared.holds.Held.{Held}
+use Rattle.port.specs.declared.holds.Reading.the-variants.{Refused as NotRead}
+use Rattle.port.specs.Desks.{shutDesk, opening, writing, finished, dropping}
+use Rattle.port.specs.Holds.{nothingHeld, copied}
+use Rattle.port.specs.Reading.{look}
+use Rattle.port.specs.Answers.{looked}
 use Rattle.aberzhan.specs.declared.Module.{Module}
 use Rattle.aberzhan.specs.declared.Stepped.{Stepped}
 use Rattle.aberzhan.specs.declared.Holding.{Holding}
-use Rattle.port.specs.Desks.{openWith, writeField}
-use Rattle.port.specs.Holds.{interval, register}
-use Rattle.port.specs.Answers.{telling}
-use Rattle.aberzhan.specs.Answers.{measured}
-use Rattle.aberzhan.specs.Ports.{aberzhan, portAt}
+use Rattle.aberzhan.specs.declared.Looked.{Looked}
 
--- ---- the struct and the state are the same thing seen two ways
+-- ---- what a port has
 
-abbrev pub seen : Module → State aberzhan
-seen m = record {
-  meter = seenMeter (m .meter);
-  desks = record { on0 = m .desk0; on1 = m .desk1 };
-  holds = record { on0 = m .hold0; on1 = m .hold1 };
-}
+abbrev pub deskOf : Module → Port → Desk
+deskOf m port0 = m .desk0
+deskOf m port1 = m .desk1
 
-abbrev pub kept : State aberzhan → Module
-kept s = record {
-  meter = keptMeter (s .meter);
-  desk0 = s .desks .on0;
-  desk1 = s .desks .on1;
-  hold0 = s .holds .on0;
-  hold1 = s .holds .on1;
-}
+abbrev pub heldOf : Module → Port → Held
+heldOf m port0 = m .hold0
+heldOf m port1 = m .hold1
 
-pub seen-kept : (s : State aberzhan) → seen (kept s) ≡ s
-seen-kept s = refl
+abbrev pub withDesk : Port → Desk → Module → Module
+withDesk port0 d m = record { meter = m .meter; desk0 = d; desk1 = m .desk1; hold0 = m .hold0; hold1 = m .hold1 }
+withDesk port1 d m = record { meter = m .meter; desk0 = m .desk0; desk1 = d; hold0 = m .hold0; hold1 = m .hold1 }
 
-pub kept-seen : (m : Module) → kept (seen m) ≡ m
-kept-seen m = refl
+abbrev pub withHeld : Port → Held → Module → Module
+withHeld port0 h m = record { meter = m .meter; desk0 = m .desk0; desk1 = m .desk1; hold0 = h; hold1 = m .hold1 }
+withHeld port1 h m = record { meter = m .meter; desk0 = m .desk0; desk1 = m .desk1; hold0 = m .hold0; hold1 = h }
 
--- ---- what a step returns: an answer, or document 01's number with the module as it came
+abbrev pub withMeter : Meter → Module → Module
+withMeter n m = record { meter = n; desk0 = m .desk0; desk1 = m .desk1; hold0 = m .hold0; hold1 = m .hold1 }
 
-abbrev pub answerOf : Report aberzhan → Answer
-answerOf silent = Done
-answerOf (commits c) = Done
-answerOf (tells p op v) = telling v
-answerOf (closes b c) = Done
+-- "Ports are 0 and 1"
+unfoldable pub portAt : ℤ → Option Port
+portAt (pos n) = portOf n
+portAt (negsuc n) = none
 
-abbrev pub stepped : Module → Outcome aberzhan → Stepped
-stepped m (refused n) = record { answer = Refused n; after = m }
-stepped m (accepted r) = record { answer = answerOf (r .0); after = kept (r .1) }
+-- a step at a port; at any other number, what is refused with 8
+abbrev pub atPort : {A : Type 0} → Option Port → A → (Port → A) → A
+atPort none refusing act = refusing
+atPort (some p) refusing act = act p
 
--- a hold returns the interval's number and serial besides; 0 and no serial if it is refused
+-- ---- cards
+
+abbrev pub refusal : ℕ → Module → Stepped
+refusal n m = record { answer = Refused n; after = m }
+
+-- what the port's desk says to an act at it
+abbrev pub atDesk : Module → Port → OrRefusal Desk → Stepped
+atDesk m p (refused n) = refusal n m
+atDesk m p (accepted d) = record { answer = Done; after = withDesk p d m }
+
+-- open with a serial: 8, 9, 1
+unfoldable pub openOf : Module → ℤ → List ℕ → Stepped
+openOf m port text = atPort (portAt port) (refusal 8 m) (λ p. atDesk m p (opening (deskOf m p) text))
+
+-- write field, value: 8, 10, 11, 12
+unfoldable pub writeOf : Module → ℤ → ℤ → ℤ → Stepped
+writeOf m port field v = atPort (portAt port) (refusal 8 m) (λ p. atDesk m p (writing (deskOf m p) field v))
+
+-- commit: 8, 10, 13. The card waits, and the port is closed.
+abbrev pub committing : Module → Port → OrRefusal Card → Stepped
+committing m p (refused n) = refusal n m
+committing m p (accepted c) = record { answer = Done; after = withMeter (waitOf c (m .meter)) (withDesk p shutDesk m) }
+
+unfoldable pub commitOf : Module → ℤ → Stepped
+commitOf m port = atPort (portAt port) (refusal 8 m) (λ p. committing m p (finished (deskOf m p)))
+
+-- drop: 8, 10
+unfoldable pub dropOf : Module → ℤ → Stepped
+dropOf m port = atPort (portAt port) (refusal 8 m) (λ p. atDesk m p (dropping (deskOf m p)))
+
+-- ---- readings
+
+-- hold: 8, 14. Returns the interval's number and serial, and replaces an earlier hold; 0 and no serial if it is refused.
 abbrev pub notHeld : ℕ → Module → Holding
 notHeld n m = record { answer = Refused n; number = 0; serial = noSerial; after = m }
 
-abbrev pub numberTold : Report aberzhan → ℕ
-numberTold (tells p op (interval n s)) = n
-numberTold (tells p op (register v)) = 0
-numberTold silent = 0
-numberTold (commits c) = 0
-numberTold (closes b c) = 0
-
-abbrev pub serialTold : Report aberzhan → Serial
-serialTold (tells p op (interval n s)) = s
-serialTold (tells p op (register v)) = noSerial
-serialTold silent = noSerial
-serialTold (commits c) = noSerial
-serialTold (closes b c) = noSerial
-
-abbrev pub holding : Module → Outcome aberzhan → Holding
-holding m (refused n) = notHeld n m
-holding m (accepted r) = record { answer = answerOf (r .0); number = numberTold (r .0); serial = serialTold (r .0); after = kept (r .1) }
-
--- ---- the steps
-
-abbrev pub atPortOf : Module → ℤ → Op aberzhan → Outcome aberzhan
-atPortOf m port op = step aberzhan (atPort (portAt port) op) (seen m)
-
-unfoldable pub openOf : Module → ℤ → List ℕ → Stepped
-openOf m port text = stepped m (atPortOf m port (edit (openWith text)))
-
-unfoldable pub writeOf : Module → ℤ → ℤ → ℤ → Stepped
-writeOf m port field v = stepped m (atPortOf m port (edit (writeField field v)))
-
-unfoldable pub commitOf : Module → ℤ → Stepped
-commitOf m port = stepped m (atPortOf m port commit)
-
-unfoldable pub dropOf : Module → ℤ → Stepped
-dropOf m port = stepped m (atPortOf m port dropCard)
+abbrev pub holding : Module → Port → OrRefusal Held → Holding
+holding m p (refused n) = notHeld n m
+holding m p (accepted h) = record { answer = Done; number = h .closed .number; serial = h .closed .serial; after = withHeld p h m }
 
 unfoldable pub holdOf : Module → ℤ → Holding
-holdOf m port = holding m (atPortOf m port (hold tt))
+holdOf m port =
+    let w = m .meter .work in
+    atPort (portAt port) (notHeld 8 m) (λ p. holding m p (copied (w .any) (w .last) (w .settings .track)))
 
-unfoldable pub readOf : Module → ℤ → ByteAddr → Stepped
-readOf m port address = stepped m (atPortOf m port (read address))
+-- read byte address: 8, 15, 16, 17
+unfoldable pub readOf : Module → ℤ → ByteAddr → Looked
+readOf m port a = record { answer = atPort (portAt port) (NotRead 8) (λ p. looked (look (heldOf m p) a)); after = m }
 
--- a block is the meter's (`proofs/Agreement.antt`: it is the step of crate `steps` for whatever a start and steps make)
-unfoldable pub meterPut : Module → Meter → Module
-meterPut m n = kept (withMeter aberzhan (seenMeter n) (seen m))
+-- ---- samples, and the start
 
+-- block: 5, 6, 18
 unfoldable pub blockOf : Module → List ℤ → List ℤ → Stepped
-blockOf m v i = let r = meterBlock (m .meter) v i in record { answer = measured (r .answer); after = meterPut m (r .after) }
+blockOf m v i = let r = meterBlock (m .meter) v i in record { answer = r .answer; after = withMeter (r .after) m }
 
--- ---- the start
-
+-- no port is open, nothing is held
 unfoldable pub freshModule : Meter → Module
-freshModule m = kept (fresh aberzhan (seenMeter m))
+freshModule m = record { meter = m; desk0 = shutDesk; desk1 = shutDesk; hold0 = nothingHeld; hold1 = nothingHeld }
 
+-- start: 7
 unfoldable pub startOf : ℤ → ℤ → List WordAddr → Stepped
-startOf n b track = let r = meterStart n b track in record { answer = measured (r .answer); after = freshModule (r .after) }
+startOf n b track = let r = meterStart n b track in record { answer = r .answer; after = freshModule (r .after) }

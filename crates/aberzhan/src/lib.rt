@@ -1,26 +1,26 @@
 // The module: two ports that stage cards and hold readings, before the meter.
 ghost use mathlib.Core.Path.{_≡_};
-ghost use Rattle.steps.specs.Answers.{refused};
-ghost use Rattle.aberzhan.specs.Inside.{isPort, deskAt, holdAt, deskPut, holdPut, waitPut, editedAt};
-ghost use Rattle.aberzhan.specs.Module.{stepped, meterPut, openOf, writeOf, commitOf, dropOf, holdOf, readOf, blockOf, notHeld, freshModule, startOf};
-ghost use Rattle.aberzhan.specs.Answers.{measured};
+ghost use Rattle.aberzhan.specs.Module.{withMeter, refusal, openOf, writeOf, commitOf, dropOf, notHeld, holdOf, readOf, blockOf, freshModule, startOf};
+ghost use Rattle.aberzhan.specs.Inside.{isPort, deskAt, holdAt, deskPut, holdPut, deskDid, committed, held};
 use address::ByteAddr;
 use address::WordAddr;
-use card::Card;
 use meter::Meter;
-use port::answers::Answer;
 use port::desks::Desk;
 use port::desks::Desked;
+use port::desks::Finished;
+use port::holds::Copied;
 use port::holds::Held;
+use port::holds::Reading;
 use serial::Serial;
+use steps::Answer;
 
 // What each step takes and hands back. Port k has the desk and the hold with its number.
 pub struct Module {
-    pub meter: Meter,
-    pub desk0: Desk,
-    pub desk1: Desk,
-    pub hold0: Held,
-    pub hold1: Held,
+    meter: Meter,
+    desk0: Desk,
+    desk1: Desk,
+    hold0: Held,
+    hold1: Held,
 }
 
 // A step's answer, and the module after it: as it came, if the step is refused.
@@ -37,14 +37,10 @@ pub struct Holding {
     pub after: Module,
 }
 
-// The meter's answer as the module's.
-fn answer_of(a: meter::Answer) -> Answer
-    ensures { λ r. ⌜ r ≡ measured a ⌝ }
-{
-    match a {
-        meter::Answer::Done => Answer::Done,
-        meter::Answer::Refused(n) => Answer::Refused(n),
-    }
+// What a read returns. The module is as it came.
+pub struct Looked {
+    pub answer: Reading,
+    pub after: Module,
 }
 
 // Ports are 0 and 1.
@@ -75,8 +71,7 @@ impl Module {
         ensures { λ r. ⌜ r ≡ startOf n b track ⌝ }
     {
         let r = meter::start(n, b, track);
-        let a = r.answer;
-        let answer = answer_of(a);
+        let answer = r.answer;
         let after = Module::fresh(r.after);
         Stepped { answer, after }
     }
@@ -115,20 +110,16 @@ impl Module {
         self
     }
 
-    // The card waits, replacing any that waits.
-    fn with_waiting(mut self, c: Card) -> Module
-        ensures { λ r. ⌜ r ≡ waitPut self c ⌝ }
+    fn with_meter(mut self, m: Meter) -> Module
+        ensures { λ r. ⌜ r ≡ withMeter m self ⌝ }
     {
-        let mut m = self.meter;
-        m.waits = true;
-        m.waiting = c;
         self.meter = m;
         self
     }
 
     // Document 01's number, and the module as it came.
     fn refused(self, number: u8) -> Stepped
-        ensures { λ r. ⌜ r ≡ stepped self (refused number) ⌝ }
+        ensures { λ r. ⌜ r ≡ refusal number self ⌝ }
     {
         Stepped {
             answer: Answer::Refused(number),
@@ -136,37 +127,60 @@ impl Module {
         }
     }
 
-    // What was done at a port's desk: 8, before whatever the desk says.
+    // What was done at a port's desk; a desk that refused is as it came.
     fn at_desk(self, port: i64, did: Desked) -> Stepped
-        ensures { λ r. ⌜ r ≡ editedAt self port did ⌝ }
+        ensures { λ r. ⌜ r ≡ deskDid self port did ⌝ }
     {
-        if is_port(port) {
-            let answer = did.answer;
-            let edited = self.with_desk(port, did.after);
-            return Stepped {
-                answer,
-                after: edited,
-            };
+        let answer = did.answer;
+        let edited = self.with_desk(port, did.after);
+        Stepped {
+            answer,
+            after: edited,
         }
-        self.refused(8)
     }
 
     // Open with a serial: 8, 9, 1.
     pub fn open(self, port: i64, serial: &[u8]) -> Stepped
         ensures { λ r. ⌜ r ≡ openOf self port (now (serial .entry)) ⌝ }
     {
-        let d = self.desk(port);
-        let begun = d.open_with(serial);
-        self.at_desk(port, begun)
+        if is_port(port) {
+            let d = self.desk(port);
+            let begun = d.open_with(serial);
+            return self.at_desk(port, begun);
+        }
+        self.refused(8)
     }
 
     // Write field, value: 8, 10, 11, 12.
     pub fn write(self, port: i64, field: i64, value: i64) -> Stepped
         ensures { λ r. ⌜ r ≡ writeOf self port field value ⌝ }
     {
-        let d = self.desk(port);
-        let written = d.write_field(field, value);
-        self.at_desk(port, written)
+        if is_port(port) {
+            let d = self.desk(port);
+            let written = d.write_field(field, value);
+            return self.at_desk(port, written);
+        }
+        self.refused(8)
+    }
+
+    // The card waits, and the desk is shut; or neither, where the desk refused.
+    fn commit_of(self, port: i64, done: Finished) -> Stepped
+        ensures { λ r. ⌜ r ≡ committed self port done ⌝ }
+    {
+        let answer = done.answer;
+        match answer {
+            Answer::Done => {
+                let old = self.meter;
+                let waiting = old.wait(done.card);
+                let m = self.with_desk(port, done.after);
+                let committed = m.with_meter(waiting);
+                Stepped {
+                    answer,
+                    after: committed,
+                }
+            }
+            Answer::Refused(n) => self.refused(n),
+        }
     }
 
     // Commit: 8, 10, 13.
@@ -175,20 +189,8 @@ impl Module {
     {
         if is_port(port) {
             let d = self.desk(port);
-            if d.opened {
-                if d.all_written() {
-                    let c = d.card();
-                    let shut = Desk::shut();
-                    let m = self.with_desk(port, shut);
-                    let committed = m.with_waiting(c);
-                    return Stepped {
-                        answer: Answer::Done,
-                        after: committed,
-                    };
-                }
-                return self.refused(13);
-            }
-            return self.refused(10);
+            let finished = d.finish();
+            return self.commit_of(port, finished);
         }
         self.refused(8)
     }
@@ -197,9 +199,12 @@ impl Module {
     pub fn drop(self, port: i64) -> Stepped
         ensures { λ r. ⌜ r ≡ dropOf self port ⌝ }
     {
-        let d = self.desk(port);
-        let dropped = d.drop_card();
-        self.at_desk(port, dropped)
+        if is_port(port) {
+            let d = self.desk(port);
+            let dropped = d.drop_card();
+            return self.at_desk(port, dropped);
+        }
+        self.refused(8)
     }
 
     fn not_held(self, number: u8) -> Holding
@@ -214,49 +219,56 @@ impl Module {
         }
     }
 
+    // The port has a new hold; or its old one, where nothing was copied.
+    fn hold_of(self, port: i64, c: Copied) -> Holding
+        ensures { λ r. ⌜ r ≡ held self port c ⌝ }
+    {
+        let answer = c.answer;
+        match answer {
+            Answer::Done => {
+                let h = c.held;
+                let serial = h.closed.serial;
+                let holding = self.with_held(port, h);
+                Holding {
+                    answer,
+                    number: h.closed.number,
+                    serial,
+                    after: holding,
+                }
+            }
+            Answer::Refused(n) => self.not_held(n),
+        }
+    }
+
     // Hold: 8, 14. Copies all registers as they stood at the last close.
     pub fn hold(self, port: i64) -> Holding
         ensures { λ r. ⌜ r ≡ holdOf self port ⌝ }
     {
         if is_port(port) {
             let w = self.meter.work;
-            if w.some {
-                let track = w.settings.track;
-                let h = Held::of(w.last, track);
-                let serial = h.closed.serial;
-                let holding = self.with_held(port, h);
-                return Holding {
-                    answer: Answer::Done,
-                    number: h.closed.number,
-                    serial,
-                    after: holding,
-                };
-            }
-            return self.not_held(14);
+            let track = w.settings.track;
+            let copied = Held::copy(w.any, w.last, track);
+            return self.hold_of(port, copied);
         }
         self.not_held(8)
     }
 
     // Read byte address: 8, 15, 16, 17.
-    pub fn read(self, port: i64, address: ByteAddr) -> Stepped
+    pub fn read(self, port: i64, address: ByteAddr) -> Looked
         ensures { λ r. ⌜ r ≡ readOf self port address ⌝ }
     {
         if is_port(port) {
             let h = self.held(port);
             let answer = h.look(address);
-            return Stepped {
+            return Looked {
                 answer,
                 after: self,
             };
         }
-        self.refused(8)
-    }
-
-    fn with_meter(mut self, m: Meter) -> Module
-        ensures { λ r. ⌜ r ≡ meterPut self m ⌝ }
-    {
-        self.meter = m;
-        self
+        Looked {
+            answer: Reading::Refused(8),
+            after: self,
+        }
     }
 
     // A block of samples, voltage and current: 5, 6, 18.
@@ -265,9 +277,11 @@ impl Module {
     {
         let m = self.meter;
         let r = m.block(v, i);
-        let a = r.answer;
-        let answer = answer_of(a);
+        let said = r.answer;
         let after = self.with_meter(r.after);
-        Stepped { answer, after }
+        Stepped {
+            answer: said,
+            after,
+        }
     }
 }

@@ -36,6 +36,11 @@ pub record DecidedBy (n : ℕ) (ps : List (PK n)) (r : RK n) (X : Type 0) (see :
   pub always : Always n ps Pre
   pub determined : DeterminedBy n ps r X see Pre Post
 
+-- ---- an outcome that the contract allows for the arguments `a`: the result z, and a last value of each `&mut` parameter
+pub record Allowed (n : ℕ) (ps : List (PK n)) (r : RK n) (Post : Out n ps r) (κs : Lfts n) (a : Dens κs ps) (z : resT r κs .Denot) : Type 0 where
+  pub lasts : Lasts (endedOf n ps r) κs a
+  pub allowed : Post κs a z (atExit (endedOf n ps r) κs a lasts)
+
 -- ---- a function that is walked by hand has no `Reads`: the same over its clauses themselves
 -- two outcomes that the clauses allow are equal
 abbrev pub DeterminedIn : {M : Type 1} (𝓤 : URA M) (T : Ended) → Clauses 𝓤 T → Type 1

@@ -1,11 +1,15 @@
 -- `read` meets its contract.
 use mathlib.Core.Path.{_≡_, sym, ap, _∙_}
-use mir.Facts.{toZ-ofZ}
 use mathlib.Core.Bool.{true, false}
-use Rattle.steps.specs.Module.{read}
-use Rattle.aberzhan.specs.Module.{readOf}
+use mir.Facts.{toZ-ofZ}
+use Rattle.port.specs.declared.holds.Held.{Held}
+use Rattle.port.specs.declared.holds.Reading.{Reading}
+use Rattle.port.specs.Reading.{look}
+use Rattle.port.specs.Answers.{looked}
+use Rattle.aberzhan.specs.declared.Module.{Module}
+use Rattle.aberzhan.specs.declared.Looked.{Looked}
 use Rattle.aberzhan.specs.Inside.{isPort, holdAt}
-use Rattle.aberzhan.proofs.Steps.{refused-8, reads}
+use Rattle.aberzhan.proofs.Steps.{reads, read-8}
 use borrow.Author.Needs.{needs}
 use Rattle.aberzhan.proofs.Module.read.Statement.{statement}
 use Rattle.aberzhan.proofs.Module.read.Tie as tie
@@ -19,29 +23,30 @@ held-requires c κs = search needs
 look-requires : tie.Need-look-requires
 look-requires c κs = search needs
 
--- the port is 0 or 1
+-- the number names a port, or none
 port : (c : tie.Then1) → isPort (c .before .before .args .port) ≡ true
 port c = rw (toZ-ofZ (c .before .before .fits .port)) at (sym (c .before .is-port .ensures) ∙ c .if1 .taken)
-
-returns : tie.Need-returns
-returns c =
-    let start = c .before .before .before .before in
-    let m = start .args .self in
-    let p = start .args .port in
-    let h = c .before .held .ensures ∙ ap (holdAt m) (toZ-ofZ (start .fits .port)) in
-    rw (c .look .ensures, h) (reads m p (port (c .before .before)) (start .args .address))
 
 no-port : (c : tie.Else1) → isPort (c .before .before .args .port) ≡ false
 no-port c = rw (toZ-ofZ (c .before .before .fits .port)) at (sym (c .before .is-port .ensures) ∙ c .if1 .left)
 
-refused-requires : tie.Need-refused-requires
-refused-requires c κs = search needs
+the-hold : (c : tie.After-held) → let a = c .before .before .before .args in c .held .result ≡ holdAt (a .self) (a .port)
+the-hold c = rw (toZ-ofZ (c .before .before .before .fits .port)) at (c .held .ensures)
+
+abbrev looked-at : Reading → Module → Looked
+looked-at r m = record { answer = r; after = m }
+
+returns : tie.Need-returns
+returns c =
+    let h = c .before in
+    let start = h .before .before .before in
+    ap (λ (r : Reading). looked-at r (start .args .self)) (c .look .ensures ∙ ap (λ (h : Held). looked (look h (start .args .address))) (the-hold h))
+    ∙ reads (start .args .self) (start .args .port) (port (h .before)) (start .args .address)
 
 returns-2 : tie.Need-returns-2
-unfolding readOf
 returns-2 c =
-    let a = c .before .before .before .args in
-    c .refused .ensures ∙ refused-8 (a .self) (a .port) (read (a .address)) (no-port (c .before))
+    let start = c .before .before in
+    read-8 (start .args .self) (start .args .port) (no-port c) (start .args .address)
 
 pub read-spec : {M : Type 1} → statement M
-read-spec = tie.close (tie.spec is-port-requires held-requires look-requires returns refused-requires returns-2)
+read-spec = tie.close (tie.spec is-port-requires held-requires look-requires returns returns-2)

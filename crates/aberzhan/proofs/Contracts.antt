@@ -1,0 +1,90 @@
+-- What the generated contracts of the module's methods allow, call by call; and that it is what `returned`, for the start `startOf`, says of the call.
+use mathlib.Core.Path.{_≡_, refl, ap, _∙_}
+use mathlib.Core.List.{List, [], _∷_}
+use lib.IntN.{ℤ}
+use contract.Lifetimes.{Lfts}
+use borrow.Fn.Kinds.{Dens}
+use denote.Ref.{now}
+use Rattle.promise.specs.Determined.{Allowed}
+use Rattle.steps.specs.Calls.{Reply, Methods, Log, noted, Ran, ended, called}
+use Rattle.address.specs.declared.WordAddr.{WordAddr}
+use Rattle.aberzhan.specs.declared.Module.{Module}
+use Rattle.aberzhan.specs.declared.Stepped.{Stepped}
+use Rattle.aberzhan.specs.declared.Holding.{Holding}
+use Rattle.aberzhan.specs.declared.Looked.{Looked}
+use Rattle.aberzhan.specs.Ports.{aberzhan}
+use Rattle.aberzhan.specs.Module.{startOf}
+use Rattle.aberzhan.specs.Calls.{stateOf, Call, callOpen, callWrite, callCommit, callDrop, callHold, callRead, callBlock, stepOf, callOf, fromStep, fromHold, fromRead, returned, program}
+use Rattle.aberzhan.proofs.Module.start.Kinds as starts-k
+use Rattle.aberzhan.proofs.Module.start.Reads as starts
+use Rattle.aberzhan.proofs.Module.open.Kinds as opens-k
+use Rattle.aberzhan.proofs.Module.open.Reads as opens
+use Rattle.aberzhan.proofs.Module.write.Kinds as writes-k
+use Rattle.aberzhan.proofs.Module.write.Reads as writes
+use Rattle.aberzhan.proofs.Module.commit.Kinds as commits-k
+use Rattle.aberzhan.proofs.Module.commit.Reads as commits
+use Rattle.aberzhan.proofs.Module.drop.Kinds as drops-k
+use Rattle.aberzhan.proofs.Module.drop.Reads as drops
+use Rattle.aberzhan.proofs.Module.hold.Kinds as holds-k
+use Rattle.aberzhan.proofs.Module.hold.Reads as holds
+use Rattle.aberzhan.proofs.Module.read.Kinds as reads-k
+use Rattle.aberzhan.proofs.Module.read.Reads as reads
+use Rattle.aberzhan.proofs.Module.block.Kinds as blocks-k
+use Rattle.aberzhan.proofs.Module.block.Reads as blocks
+
+-- ---- the contracts
+
+-- `Module::start` may return r
+abbrev pub Starts : ℤ → ℤ → List WordAddr → Stepped → Type 0
+Starts n b track r =
+    (κs : Lfts 0) × (a : Dens κs starts-k.ps) × Allowed 0 starts-k.ps starts-k.r starts.Post κs a r
+    × (a .0 ≡ n) × (a .1 .0 ≡ b) × (a .1 .1 .0 ≡ track)
+
+-- the call's method may return the reply and the module o; its first parameter is the module m, and the others are the call's
+abbrev pub Allows : Call → Module → Reply aberzhan × Module → Type 0
+Allows (callOpen p text) m o =
+    (κs : Lfts 1) × (a : Dens κs opens-k.ps) × (r : Stepped) × Allowed 1 opens-k.ps opens-k.r opens.Post κs a r
+    × (a .0 ≡ m) × (a .1 .0 ≡ p) × (now (a .1 .1 .0) ≡ text) × (o ≡ fromStep r)
+Allows (callWrite p field v) m o =
+    (κs : Lfts 0) × (a : Dens κs writes-k.ps) × (r : Stepped) × Allowed 0 writes-k.ps writes-k.r writes.Post κs a r
+    × (a .0 ≡ m) × (a .1 .0 ≡ p) × (a .1 .1 .0 ≡ field) × (a .1 .1 .1 .0 ≡ v) × (o ≡ fromStep r)
+Allows (callCommit p) m o =
+    (κs : Lfts 0) × (a : Dens κs commits-k.ps) × (r : Stepped) × Allowed 0 commits-k.ps commits-k.r commits.Post κs a r
+    × (a .0 ≡ m) × (a .1 .0 ≡ p) × (o ≡ fromStep r)
+Allows (callDrop p) m o =
+    (κs : Lfts 0) × (a : Dens κs drops-k.ps) × (r : Stepped) × Allowed 0 drops-k.ps drops-k.r drops.Post κs a r
+    × (a .0 ≡ m) × (a .1 .0 ≡ p) × (o ≡ fromStep r)
+Allows (callHold p) m o =
+    (κs : Lfts 0) × (a : Dens κs holds-k.ps) × (r : Holding) × Allowed 0 holds-k.ps holds-k.r holds.Post κs a r
+    × (a .0 ≡ m) × (a .1 .0 ≡ p) × (o ≡ fromHold r)
+Allows (callRead p b) m o =
+    (κs : Lfts 0) × (a : Dens κs reads-k.ps) × (r : Looked) × Allowed 0 reads-k.ps reads-k.r reads.Post κs a r
+    × (a .0 ≡ m) × (a .1 .0 ≡ p) × (a .1 .1 .0 ≡ b) × (o ≡ fromRead r)
+Allows (callBlock v i) m o =
+    (κs : Lfts 2) × (a : Dens κs blocks-k.ps) × (r : Stepped) × Allowed 2 blocks-k.ps blocks-k.r blocks.Post κs a r
+    × (a .0 ≡ m) × (now (a .1 .0) ≡ v) × (now (a .1 .1 .0) ≡ i) × (o ≡ fromStep r)
+
+-- the module's methods, as crate `steps` has them
+abbrev pub methods : Methods aberzhan
+methods = record { Kept = Module; stateOf = stateOf; Call = Call; stepOf = stepOf; callOf = callOf; Allows = Allows }
+
+-- ---- every outcome that they allow
+
+pub start-is : (n b : ℤ) (track : List WordAddr) (r : Stepped) → Starts n b track r → r ≡ startOf n b track
+start-is n b track r (κs, a, h, e, f, g) = rw (e, f, g) at (h .allowed)
+
+pub allowed-is : (k : Call) (m : Module) (o : Reply aberzhan × Module) → Allows k m o → o ≡ returned k m
+allowed-is (callOpen p text) m o (κs, a, r, h, e, f, g, q) = q ∙ ap fromStep (rw (e, f, g) at (h .allowed))
+allowed-is (callWrite p field v) m o (κs, a, r, h, e, f, g, i, q) = q ∙ ap fromStep (rw (e, f, g, i) at (h .allowed))
+allowed-is (callCommit p) m o (κs, a, r, h, e, f, q) = q ∙ ap fromStep (rw (e, f) at (h .allowed))
+allowed-is (callDrop p) m o (κs, a, r, h, e, f, q) = q ∙ ap fromStep (rw (e, f) at (h .allowed))
+allowed-is (callHold p) m o (κs, a, r, h, e, f, q) = q ∙ ap fromHold (rw (e, f) at (h .allowed))
+allowed-is (callRead p b) m o (κs, a, r, h, e, f, g, q) = q ∙ ap fromRead (rw (e, f, g) at (h .allowed))
+allowed-is (callBlock v i) m o (κs, a, r, h, e, f, g, q) = q ∙ ap fromStep (rw (e, f, g) at (h .allowed))
+
+-- so whatever comes of calls, one after the other, is what `program` says
+pub ran-is : {ks : List Call} {m : Module} {l : Log aberzhan Module} → Ran aberzhan methods ks m l → l ≡ program ks m
+ran-is ended = refl
+ran-is (called {k} {ks} {m} {o} {l} a r) =
+    ap (noted aberzhan Module (stepOf k) (o .0)) (ran-is r)
+    ∙ ap (λ (o : Reply aberzhan × Module). noted aberzhan Module (stepOf k) (o .0) (program ks (o .1))) (allowed-is k m o a)
