@@ -1,11 +1,12 @@
 // The close of an interval.
 ghost use mathlib.Core.Path.{_≡_};
-ghost use Rattle.rules.specs.Source.{vrmsOf};
+ghost use Rattle.number.specs.Range.{capped};
 ghost use Rattle.interval.specs.Close.{sourceAfter, sevenOf, registersAfter, closedOf, noneClosed};
 use super::track::Ends;
 use address::WordAddr;
 use card::Card;
 use energy::Energy;
+use rules::WATT;
 use sample::Flow;
 use sample::Sums;
 use serial::Serial;
@@ -38,12 +39,12 @@ pub struct Closed {
 }
 
 impl Source {
-    // The source after an interval of n samples; vv is the sum of the voltage squares.
-    pub(crate) fn after(self, c: Card, vv: u64, f: Flow, n: u32, b: u64) -> Source
-        ensures { λ r. ⌜ r ≡ sourceAfter c (vrmsOf vv n) f n b self ⌝ }
+    // The source after an interval of n samples; v is VRMS.
+    pub(crate) fn after(self, c: Card, v: u32, f: Flow, n: u32, b: u64) -> Source
+        ensures { λ r. ⌜ r ≡ sourceAfter c (capped v) f n b self ⌝ }
     {
-        let p = rules::watt(c, f, n);
-        let figures = rules::figures(c, vv, f, n);
+        let figures = rules::figures(c, v, f, n);
+        let p = figures[WATT];
         let plus = self.plus;
         let minus = self.minus;
         let up = plus.plus_after(p, n, b);
@@ -68,10 +69,11 @@ impl Registers {
     pub(crate) fn after(self, first: bool, t: Settings, c: Card, s: Sums, n: u32) -> Registers
         ensures { λ r. ⌜ r ≡ registersAfter first t c s n self ⌝ }
     {
-        let v = rules::vrms(s.vv, n) as i32;
+        let volts = rules::vrms(s.vv, n);
+        let v = volts as i32;
         let old = self.a;
         let flow = s.flow;
-        let a = old.after(c, s.vv, flow, n, t.b);
+        let a = old.after(c, volts, flow, n, t.b);
         let figures = a.figures;
         let seven = seven_of(v, figures);
         let ends = self.ends;

@@ -1,3 +1,4 @@
 -- Laws of the registers' rules.
 pub mod Bounds
+pub mod Places
 pub mod Decided
