@@ -1,5 +1,6 @@
 -- Laws of one interval.
 pub mod Slots
 pub mod Wholes
+pub mod Rms
 pub mod Tabled
 pub mod Decided

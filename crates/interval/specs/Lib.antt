@@ -2,4 +2,5 @@
 pub mod Tracking
 pub mod Close
 pub mod Whole
+pub mod Rms
 pub mod Figures
