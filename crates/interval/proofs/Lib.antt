@@ -2,5 +2,6 @@
 pub mod Slots
 pub mod Wholes
 pub mod Rms
+pub mod Histories
 pub mod Tabled
 pub mod Decided

@@ -25,13 +25,19 @@ unfolding worked
 worked-long c before [] = refl
 worked-long c before (x ∷ xs) = ap suc (worked-long c (x .1) xs)
 
-pub interval-rms : (first : Bool) (t : Settings) (c : Card) (before : ℤ) (xs : List Sample) (old : Closed) → RmsOf c before xs (intervalOf first t c before xs old)
+pub interval-rms : (first : Bool) (t : Settings) (c : Card) (before : ℤ) (xs : List Sample) (old : Closed) →
+    RmsOf c before xs (intervalOf first t c before xs old)
 unfolding intervalOf closedOf registersAfter sourceAfter sumsOf voltageSquares flowOf
 interval-rms first t c before xs old =
     let ys = worked c before xs in
     let n = length xs in
+    let v = vrmsOf (voltageSquares ys) n in
+    let less = irmsoffs c * irmsoffs c in
+    let shown = getD (figuresOf c v (flowOf ys) n) 0 (pos 0) in
+    let i : RootSquelched (flowOf ys .ii / n - less) (squelch c) shown =
+    subst (RootSquelched (flowOf ys .ii / n - less) (squelch c)) (sym (irms-at c v (flowOf ys) n)) (irms-root c (flowOf ys) n) in
+    let e = sym (worked-long c before xs) in
     record {
-      vrms = subst (λ (m : ℕ). RootShown (voltageSquares ys / m) (pos (vrmsOf (voltageSquares ys) n))) (sym (worked-long c before xs)) (vrms-root (voltageSquares ys) n);
-      irms = subst (λ (m : ℕ). RootSquelched (flowOf ys .ii / m - irmsoffs c * irmsoffs c) (squelch c) (getD (figuresOf c (vrmsOf (voltageSquares ys) n) (flowOf ys) n) 0 (pos 0))) (sym (worked-long c before xs))
-          (subst (RootSquelched (flowOf ys .ii / n - irmsoffs c * irmsoffs c) (squelch c)) (sym (irms-at c (vrmsOf (voltageSquares ys) n) (flowOf ys) n)) (irms-root c (flowOf ys) n));
+      vrms = subst (λ (m : ℕ). RootShown (voltageSquares ys / m) (pos v)) e (vrms-root (voltageSquares ys) n);
+      irms = subst (λ (m : ℕ). RootSquelched (flowOf ys .ii / m - less) (squelch c) shown) e i;
     }

@@ -3,4 +3,5 @@ pub mod Tracking
 pub mod Close
 pub mod Whole
 pub mod Rms
+pub mod History
 pub mod Figures

@@ -32,7 +32,8 @@ root-same x s h k = record { low = omega (arith, h .low); high = k }
 root-of-0 : (x : ℕ) → x ≡ 0 → Root x 0
 root-of-0 x e = record { low = omega arith; high = omega arith }
 
-chosen : (x s : ℕ) (t : Bool) → Root (x / 4) s → (T t → (2 * s + 1) * (2 * s + 1) ≤ x) → (T (not t) → x < (2 * s + 1) * (2 * s + 1)) → Root x (cond t (2 * s + 1) (2 * s))
+chosen : (x s : ℕ) (t : Bool) → Root (x / 4) s →
+    (T t → (2 * s + 1) * (2 * s + 1) ≤ x) → (T (not t) → x < (2 * s + 1) * (2 * s + 1)) → Root x (cond t (2 * s + 1) (2 * s))
 chosen x s true h f g = root-more x s h (f tt)
 chosen x s false h f g = root-same x s h (g tt)
 
