@@ -1,6 +1,5 @@
 // Energy: one direction's count and remainder, advanced here and nowhere else.
 ghost use mathlib.Core.Path.{_≡_};
-ghost use Prim.Native.Nat.{_≤_};
 ghost use Rattle.energy.specs.Energies.{advanced, joinedBy, amountOf, plusAfter, minusAfter};
 
 pub struct Energy {

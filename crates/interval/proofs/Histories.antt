@@ -2,9 +2,9 @@
 use Prim.Native.Nat.{ℕ, _+_, _<_, _%_, _^_}
 use mathlib.Core.Path.{_≡_, refl, sym, ap, subst, _∙_}
 use mathlib.Core.Bool.{Bool, true, false, cond}
-use mathlib.Core.List.{List, [], _∷_, _++_, append-assoc, append-nil}
+use mathlib.Core.List.{List, [], _∷_, _++_, append-assoc}
 use native.Mathlib.Omega.{arith}
-use mathlib.Core.Logic.{_⊎_, inl, inr}
+use mathlib.Core.Logic.{inl, inr}
 use lib.IntN.{ℤ, pos}
 use lib.ListN.{getD, length, length-append}
 use lib.Signed.{ltZ, _≤ℤ_, ≤ℤ-refl}
@@ -17,7 +17,7 @@ use Rattle.interval.specs.declared.close.Closed.{Closed}
 use Rattle.interval.specs.Tracking.{further, lowest, highest, followed}
 use Rattle.interval.specs.Close.{closedOf, registersAfter, sourceAfter, numberAfter, noneClosed}
 use Rattle.interval.specs.Whole.{sumsOf, intervalOf}
-use Rattle.interval.specs.History.{ClosedNext, ClosedInTurn, AllOf, OneOf, Least, Greatest, valueOf, Followed, EachFollowed, ClosesFollowed}
+use Rattle.interval.specs.History.{ClosedNext, ClosedInTurn, AllOf, OneOf, Least, Greatest, valueOf, Followed, ClosesFollowed}
 use Rattle.interval.proofs.Slots.{slot-at}
 
 -- an interval that is worked from its samples closes next

@@ -5,19 +5,18 @@ use mathlib.Core.Bool.{Bool}
 use mathlib.Core.List.{List, [], _∷_}
 use lib.IntN.{ℤ, pos}
 use lib.ListN.{length, getD}
-use Rattle.number.specs.Sign.{squareOf}
 use Rattle.card.specs.declared.Card.{Card}
 use Rattle.sample.specs.Fields.{irmsoffs, squelch}
 use Rattle.sample.specs.Sums.{Sample}
 use Rattle.rules.specs.Rms.{RootShown, RootSquelched}
-use Rattle.rules.specs.Source.{vrmsOf, irmsOf, figuresOf}
+use Rattle.rules.specs.Source.{vrmsOf, figuresOf}
 use Rattle.rules.proofs.Places.{irms-at}
 use Rattle.rules.proofs.Rms.{vrms-root, irms-root}
 use Rattle.interval.specs.declared.close.Settings.{Settings}
 use Rattle.interval.specs.declared.close.Closed.{Closed}
-use Rattle.interval.specs.Whole.{worked, total, voltageSquares, flowOf, sumsOf, intervalOf}
+use Rattle.interval.specs.Whole.{worked, voltageSquares, flowOf, sumsOf, intervalOf}
 use Rattle.interval.specs.Close.{closedOf, registersAfter, sourceAfter}
-use Rattle.interval.specs.Rms.{meanSquare, RmsOf}
+use Rattle.interval.specs.Rms.{RmsOf}
 
 -- a sample is corrected into one
 worked-long : (c : Card) (before : ℤ) (xs : List Sample) → length (worked c before xs) ≡ length xs

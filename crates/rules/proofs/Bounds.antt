@@ -1,21 +1,20 @@
 -- Bounds on the registers: each fits its 24 bits, and no step on the way overflows.
-use Prim.Native.Nat.{ℕ, _+_, _*_, _-_, _/_, _^_, _<_, _≤_, min}
+use Prim.Native.Nat.{ℕ, _+_, _*_, _-_, _/_, _≤_, min}
 use mathlib.Core.Path.{_≡_}
 use mathlib.Core.Bool.{Bool, true, false, cond}
 use native.Mathlib.Nat.{div-zero, mul-le-mul, le-refl}
 use native.Mathlib.Omega.{arith}
 use lib.Dec.{eqb, ltb}
-use lib.IntN.{ℤ, pos, negsuc, natAbs, _*ℤ_}
-use lib.Signed.{mag, natAbs-le}
+use lib.IntN.{ℤ, pos, negsuc, _*ℤ_}
 use mir.Syntax.{w32, w64}
 use mir.Val.{SFits, toZ}
 use mir.Facts.{toZ-pos}
 use Rattle.number.specs.Range.{heldWithin, clipped}
 use Rattle.number.specs.Sign.{lessened}
 use Rattle.number.specs.Root.{Root, rootOf}
-use Rattle.number.proofs.Signed.{up, dn, norm, abs-is, ltZ-false}
+use Rattle.number.proofs.Signed.{up, dn, norm, ltZ-false}
 use Rattle.number.proofs.Fits.{within, size-of, size-nat, size-mul, size-fits}
-use Rattle.number.proofs.Ranges.{held-is, clipped-is, clipped-mag}
+use Rattle.number.proofs.Ranges.{held-is, clipped-is}
 use Rattle.number.proofs.Signs.{lessened-is}
 use Rattle.number.proofs.Roots.{root-of}
 use Rattle.rules.specs.Rules.{rms, squelched, apparentOf, crestOf}

@@ -1,5 +1,5 @@
 -- VRMS and IRMS are roots of mean squares.
-use Prim.Native.Nat.{ℕ, _*_, _-_, _/_, _<_, _≤_, min}
+use Prim.Native.Nat.{ℕ, _*_, _-_, _/_, min}
 use mathlib.Core.Path.{_≡_, ap}
 use native.Mathlib.Omega.{arith}
 use lib.IntN.{pos}

@@ -3,7 +3,6 @@ ghost use mathlib.Core.Path.{_≡_};
 ghost use Prim.Native.Nat.{_≤_, _*_};
 ghost use lib.IntN.{natAbs};
 ghost use Rattle.number.specs.Range.{capped};
-ghost use Rattle.number.specs.Sign.{squareOf};
 ghost use Rattle.rules.specs.Rules.{rms, squelched, activeOf, apparentOf, factorOf, crestOf};
 ghost use Rattle.rules.specs.Source.{vrmsOf, irmsOf, wattOf, ipeakOf, six, figuresOf};
 use card::Card;

@@ -1,13 +1,11 @@
 -- `number::root` meets its contract. The loop keeps r the root of the pairs of bits that were taken, all but the last `left`.
 use native.Mathlib.Omega.{arith}
 use native.Mathlib.Nat.{mul-le-mul}
-use Prim.Native.Nat.{ℕ, _+_, _*_, _-_, _/_, _^_, _≤_, _<_}
+use Prim.Native.Nat.{_+_, _*_, _-_, _/_, _≤_, _<_}
 use Rattle.number.specs.Root.{Root}
 use Rattle.number.proofs.Roots.{taken, one-before, root-small, root-more, root-same, root-begins, root-ends}
 use Rattle.number.proofs.root.Statement.{statement}
 use Rattle.number.proofs.root.Tie as tie
-use Rattle.number.proofs.root.Reads as reads
-use Rattle.number.proofs.root.Lts as lts
 
 abbrev Inv-loop : tie.InvT-loop
 Inv-loop x r₀ left₀ r left = (left ≤ 32) × Root (taken x left) r
