@@ -1,7 +1,8 @@
 // The close of an interval.
 ghost use mathlib.Core.Path.{_≡_};
 ghost use Rattle.number.specs.Range.{capped};
-ghost use Rattle.interval.specs.Close.{sourceAfter, sevenOf, registersAfter, closedOf, noneClosed};
+ghost use Rattle.energy.specs.Energies.{advanced};
+ghost use Rattle.interval.specs.Close.{withPlus, withMinus, sourceAfter, sevenOf, registersAfter, closedOf, noneClosed};
 use super::track::Ends;
 use address::WordAddr;
 use card::Card;
@@ -39,7 +40,25 @@ pub struct Closed {
 }
 
 impl Source {
-    // The source after an interval of n samples; v is VRMS.
+    // Its record of energy taken in is lent, and advanced where it lies.
+    fn join_plus(self, amount: u64, bucket: u64) -> Source
+        ensures { λ r. ⌜ r ≡ withPlus self (advanced (self .plus) amount bucket) ⌝ }
+    {
+        let mut x = self;
+        energy::advance(&mut x.plus, amount, bucket);
+        x
+    }
+
+    // Its record of energy given back is lent, and advanced where it lies.
+    fn join_minus(self, amount: u64, bucket: u64) -> Source
+        ensures { λ r. ⌜ r ≡ withMinus self (advanced (self .minus) amount bucket) ⌝ }
+    {
+        let mut x = self;
+        energy::advance(&mut x.minus, amount, bucket);
+        x
+    }
+
+    // The source after an interval of n samples; v is VRMS. Its energy joins the record of its sign, and none if it is 0.
     pub(crate) fn after(self, c: Card, v: u32, f: Flow, n: u32, b: u64) -> Source
         ensures { λ r. ⌜ r ≡ sourceAfter c (capped v) f n b self ⌝ }
     {
@@ -47,13 +66,19 @@ impl Source {
         let p = figures[WATT];
         let plus = self.plus;
         let minus = self.minus;
-        let up = plus.plus_after(p, n, b);
-        let down = minus.minus_after(p, n, b);
-        Source {
+        let s = Source {
             figures,
-            plus: up,
-            minus: down,
+            plus,
+            minus,
+        };
+        let more = energy::amount(p, n);
+        if 0 < p {
+            return s.join_plus(more, b);
         }
+        if p < 0 {
+            return s.join_minus(more, b);
+        }
+        s
     }
 }
 
