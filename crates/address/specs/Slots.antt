@@ -1,5 +1,4 @@
 -- A tracking slot: 0 (off), or one of the first seven words in the register table.
-use Prim.Native.Nat.{ℕ}
 use mathlib.Core.Bool.{Bool, true, _&&_, _||_}
 use mathlib.Core.List.{List, [], _∷_}
 use lib.Dec.{eqb, ltb}

@@ -1,4 +1,6 @@
 // What a card is: document 01, "A probe's card".
+pub mod names;
+
 use serial::Serial;
 ghost use mathlib.Core.Path.{_≡_};
 ghost use Prim.Native.Nat.{_≤_, _<_};

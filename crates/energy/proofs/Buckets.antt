@@ -1,10 +1,8 @@
 -- Buckets: the sum of a remainder and an amount, divided apart. `carry` is the bucket that the two remainders fill together.
 use Prim.Native.Nat.{ℕ, _+_, _*_, _-_, _/_, _%_, _<_, _≤_}
-use mathlib.Core.Path.{_≡_, refl, sym, ap, ap₂, _∙_}
-use mathlib.Core.Bool.{Bool, cond}
+use mathlib.Core.Path.{_≡_, refl}
 use native.Mathlib.Nat.{div-add-mod', mod-lt, div-eq-of-lt-le}
 use native.Mathlib.Omega.{arith}
-use lib.Dec.{eqb}
 use borrow.Author.Tests.{ne-eqb}
 use Rattle.energy.specs.declared.Energy.{Energy}
 use Rattle.energy.specs.Energies.{advanced}

@@ -10,16 +10,11 @@ use contract.Monad.{Fun}
 use Rattle.promise.specs.Determined.{Decided, DecidedIn}
 use Rattle.promise.proofs.Facts.{two-facts}
 use Rattle.energy.proofs.advance as advance
-use Rattle.energy.proofs.Energy.plus_after.Kinds as plus-after-k
-use Rattle.energy.proofs.Energy.plus_after.Reads as plus-after
-use Rattle.energy.proofs.Energy.minus_after.Kinds as minus-after-k
-use Rattle.energy.proofs.Energy.minus_after.Reads as minus-after
+use Rattle.energy.proofs.amount.Kinds as amount-k
+use Rattle.energy.proofs.amount.Reads as amount
 
-pub plus-after-decided : Decided 0 plus-after-k.ps plus-after-k.r plus-after.Pre plus-after.Post
-plus-after-decided = record { always = λ κs a. tt; determined = λ κs a p z z′ ws ws′ q q′. (q ∙ sym q′, refl) }
-
-pub minus-after-decided : Decided 0 minus-after-k.ps minus-after-k.r minus-after.Pre minus-after.Post
-minus-after-decided = record { always = λ κs a. tt; determined = λ κs a p z z′ ws ws′ q q′. (q ∙ sym q′, refl) }
+pub amount-decided : Decided 0 amount-k.ps amount-k.r amount.Pre amount.Post
+amount-decided = record { always = λ κs a. tt; determined = λ κs a p z z′ ws ws′ q q′. (q ∙ sym q′, refl) }
 
 -- the lent record: what is left in it is `ws .0`
 module _ {M : Type 1} (𝓤 : URA M) (H : Heap 𝓤) (A : Atoms 𝓤) (mem : Memory → SProp 𝓤) (run : Routine → Fun 𝓤) where

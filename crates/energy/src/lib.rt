@@ -1,15 +1,14 @@
 // Energy: one direction's count and remainder, advanced here and nowhere else.
 ghost use mathlib.Core.Path.{_≡_};
-ghost use Prim.Native.Nat.{_≤_};
-ghost use Rattle.energy.specs.Energies.{advanced, joinedBy, amountOf, plusAfter, minusAfter};
+ghost use Rattle.energy.specs.Energies.{advanced, amountOf};
 
 pub struct Energy {
     pub count: u32,
     pub rest: u64,
 }
 
-// What an interval of n samples with active power p adds to the direction of its sign.
-fn amount(p: i32, n: u32) -> u64
+// What an interval of n samples with active power p adds to the record of its sign.
+pub fn amount(p: i32, n: u32) -> u64
     ensures { λ r. ⌜ r ≡ amountOf p n ⌝ }
 {
     number::size(p as i64) * n as u64
@@ -41,44 +40,11 @@ impl Energy {
             rest: had - (bucket - more),
         }
     }
-
-    // The amount joins only its own direction.
-    fn join(self, own: bool, amount: u64, bucket: u64) -> Energy
-        ensures { λ r. ⌜ r ≡ joinedBy own self amount bucket ⌝ }
-    {
-        if own {
-            return closed(self, amount, bucket);
-        }
-        self
-    }
-
-    // The direction of a power above 0.
-    pub fn plus_after(self, p: i32, n: u32, bucket: u64) -> Energy
-        ensures { λ r. ⌜ r ≡ plusAfter p n bucket self ⌝ }
-    {
-        self.join(0 < p, amount(p, n), bucket)
-    }
-
-    // The direction of a power below 0.
-    pub fn minus_after(self, p: i32, n: u32, bucket: u64) -> Energy
-        ensures { λ r. ⌜ r ≡ minusAfter p n bucket self ⌝ }
-    {
-        self.join(p < 0, amount(p, n), bucket)
-    }
 }
 
-// The record lent, and advanced where it lies.
+// The record, lent at an interval's close and advanced where it lies.
 pub fn advance(e: &mut Energy, amount: u64, bucket: u64)
     ensures { λ _. ⌜ now (e .exit) ≡ advanced (now (e .entry)) amount bucket ⌝ }
 {
     *e = Energy::advanced(*e, amount, bucket);
-}
-
-// An interval closes: its direction's record is lent and taken back.
-fn closed(e: Energy, amount: u64, bucket: u64) -> Energy
-    ensures { λ r. ⌜ r ≡ advanced e amount bucket ⌝ }
-{
-    let mut x = e;
-    advance(&mut x, amount, bucket);
-    x
 }

@@ -1,5 +1,9 @@
 -- Laws of one interval.
 pub mod Slots
+pub mod Directions
+pub mod Lends
 pub mod Wholes
+pub mod Rms
+pub mod Histories
 pub mod Tabled
 pub mod Decided

@@ -13,8 +13,16 @@ use Rattle.interval.specs.declared.close.Source.{Source}
 use Rattle.interval.specs.declared.close.Registers.{Registers}
 use Rattle.interval.specs.declared.close.Closed.{Closed}
 use Rattle.rules.specs.Source.{vrmsOf, figuresOf, wattOf}
+use Rattle.energy.specs.declared.Energy.{Energy}
 use Rattle.energy.specs.Energies.{plusAfter, minusAfter, noEnergy}
 use Rattle.interval.specs.Tracking.{followed}
+
+-- a source with another record of one direction's energy
+unfoldable pub withPlus : Source → Energy → Source
+withPlus s e = record { figures = s .figures; plus = e; minus = s .minus }
+
+unfoldable pub withMinus : Source → Energy → Source
+withMinus s e = record { figures = s .figures; plus = s .plus; minus = e }
 
 -- one current source: its six figures, and both directions' energy; v is VRMS, b the bucket
 unfoldable pub sourceAfter : Card → ℕ → Flow → ℕ → ℕ → Source → Source

@@ -1,6 +1,6 @@
 -- Figures to check by, C1 to C12, as one table: what the definitions give, and what document 01 says. Gain one and other fields 0 unless said.
 use Prim.Native.Nat.{ℕ, _-_}
-use mathlib.Core.Bool.{Bool, true}
+use mathlib.Core.Bool.{true}
 use mathlib.Core.List.{List, [], _∷_, map}
 use lib.IntN.{ℤ, pos, negsuc}
 use lib.ListN.{getD, set, length, replicate}

@@ -2,4 +2,6 @@
 pub mod Tracking
 pub mod Close
 pub mod Whole
+pub mod Rms
+pub mod History
 pub mod Figures

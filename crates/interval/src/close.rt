@@ -1,11 +1,13 @@
 // The close of an interval.
 ghost use mathlib.Core.Path.{_≡_};
-ghost use Rattle.rules.specs.Source.{vrmsOf};
-ghost use Rattle.interval.specs.Close.{sourceAfter, sevenOf, registersAfter, closedOf, noneClosed};
+ghost use Rattle.number.specs.Range.{capped};
+ghost use Rattle.energy.specs.Energies.{advanced};
+ghost use Rattle.interval.specs.Close.{withPlus, withMinus, sourceAfter, sevenOf, registersAfter, closedOf, noneClosed};
 use super::track::Ends;
 use address::WordAddr;
 use card::Card;
 use energy::Energy;
+use rules::WATT;
 use sample::Flow;
 use sample::Sums;
 use serial::Serial;
@@ -38,21 +40,45 @@ pub struct Closed {
 }
 
 impl Source {
-    // The source after an interval of n samples; vv is the sum of the voltage squares.
-    pub(crate) fn after(self, c: Card, vv: u64, f: Flow, n: u32, b: u64) -> Source
-        ensures { λ r. ⌜ r ≡ sourceAfter c (vrmsOf vv n) f n b self ⌝ }
+    // Its record of energy taken in is lent, and advanced where it lies.
+    fn join_plus(self, amount: u64, bucket: u64) -> Source
+        ensures { λ r. ⌜ r ≡ withPlus self (advanced (self .plus) amount bucket) ⌝ }
     {
-        let p = rules::watt(c, f, n);
-        let figures = rules::figures(c, vv, f, n);
+        let mut x = self;
+        energy::advance(&mut x.plus, amount, bucket);
+        x
+    }
+
+    // Its record of energy given back is lent, and advanced where it lies.
+    fn join_minus(self, amount: u64, bucket: u64) -> Source
+        ensures { λ r. ⌜ r ≡ withMinus self (advanced (self .minus) amount bucket) ⌝ }
+    {
+        let mut x = self;
+        energy::advance(&mut x.minus, amount, bucket);
+        x
+    }
+
+    // The source after an interval of n samples; v is VRMS. Its energy joins the record of its sign, and none if it is 0.
+    pub(crate) fn after(self, c: Card, v: u32, f: Flow, n: u32, b: u64) -> Source
+        ensures { λ r. ⌜ r ≡ sourceAfter c (capped v) f n b self ⌝ }
+    {
+        let figures = rules::figures(c, v, f, n);
+        let p = figures[WATT];
         let plus = self.plus;
         let minus = self.minus;
-        let up = plus.plus_after(p, n, b);
-        let down = minus.minus_after(p, n, b);
-        Source {
+        let s = Source {
             figures,
-            plus: up,
-            minus: down,
+            plus,
+            minus,
+        };
+        let more = energy::amount(p, n);
+        if 0 < p {
+            return s.join_plus(more, b);
         }
+        if p < 0 {
+            return s.join_minus(more, b);
+        }
+        s
     }
 }
 
@@ -68,10 +94,11 @@ impl Registers {
     pub(crate) fn after(self, first: bool, t: Settings, c: Card, s: Sums, n: u32) -> Registers
         ensures { λ r. ⌜ r ≡ registersAfter first t c s n self ⌝ }
     {
-        let v = rules::vrms(s.vv, n) as i32;
+        let volts = rules::vrms(s.vv, n);
+        let v = volts as i32;
         let old = self.a;
         let flow = s.flow;
-        let a = old.after(c, s.vv, flow, n, t.b);
+        let a = old.after(c, volts, flow, n, t.b);
         let figures = a.figures;
         let seven = seven_of(v, figures);
         let ends = self.ends;

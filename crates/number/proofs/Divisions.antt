@@ -1,6 +1,6 @@
 -- Both roundings are what document 01 means by them, and each has one answer; the machine's shift is the division rounded down.
-use mathlib.Core.Path.{_≡_, refl, ap, sym, _∙_}
-use Prim.Native.Nat.{ℕ, zero, suc, _+_, _*_, _-_, _/_, _%_, _^_, _<_, _≤_}
+use mathlib.Core.Path.{_≡_, refl}
+use Prim.Native.Nat.{ℕ, zero, suc, _+_, _*_, _-_, _/_, _^_, _<_, _≤_}
 use native.Mathlib.Nat.{div-add-mod, mod-lt, div-zero, div-le-self, div-eq-of-lt, pow-le-pow-right}
 use native.Mathlib.Omega.{arith}
 use lib.IntN.{ℤ, pos, negsuc, negℤ, natAbs, _+ℤ_, _*ℤ_}
@@ -9,7 +9,7 @@ use mir.Syntax.{w64}
 use mir.Val.{SFits}
 use Rattle.number.specs.Sign.{withSign}
 use Rattle.number.specs.Rounding.{floorDiv, towardZero, RoundedDown, RoundedTowardZero}
-use Rattle.number.proofs.Signed.{up, dn, signs, neg-is, add-is, mul-is, norm, abs-is, le-in, le-out}
+use Rattle.number.proofs.Signed.{signs, neg-is, add-is, mul-is, norm, abs-is, le-in, le-out}
 use Rattle.number.proofs.Signs.{signed-is, signed-size}
 
 -- ---- rounding down

@@ -1,16 +1,15 @@
 -- The 24-bit range: a clipped number is in it, a number in it is its own clip, and what clipping does to both signs.
-use mathlib.Core.Path.{_≡_, refl, sym, ap}
+use mathlib.Core.Path.{_≡_, refl}
 use mathlib.Core.Bool.{Bool, true, false, cond, _&&_}
-use Prim.Native.Nat.{ℕ, suc, _+_, _<_, _≤_, _^_, min}
+use Prim.Native.Nat.{ℕ, _<_, min}
 use native.Mathlib.Omega.{arith}
-use lib.Dec.{T}
-use lib.IntN.{ℤ, pos, negsuc, natAbs}
-use lib.Signed.{mag, ltZ, leZ, _≤ℤ_}
-use mir.Syntax.{w32, w64}
+use lib.IntN.{ℤ, pos, negsuc}
+use lib.Signed.{mag, ltZ, leZ}
+use mir.Syntax.{w32}
 use mir.Val.{SFits}
-use Rattle.number.specs.Range.{low, high, most, in24, heldWithin, clipped, capped, InRange}
+use Rattle.number.specs.Range.{low, high, in24, heldWithin, clipped, capped, InRange}
 use Rattle.number.proofs.Signed.{up, dn, norm, signs, cond-is, ltZ-true, ltZ-false, le-in, le-out}
-use Rattle.number.proofs.Fits.{within, Size}
+use Rattle.number.proofs.Fits.{Size}
 
 -- a number held within two ends is one of the three
 pub held-is : (lo hi z : ℤ) (P : ℤ → Type 0) → (ltZ z lo ≡ true → P lo) → (ltZ z lo ≡ false → ltZ hi z ≡ true → P hi) → (ltZ z lo ≡ false → ltZ hi z ≡ false → P z) → P (heldWithin lo hi z)

@@ -1,13 +1,12 @@
--- The root is what document 01 means by it, there is one, and it is found a pair of bits at a time.
+-- The root is what document 01 means by it, there is one, and it may be found a pair of bits at a time.
 use Prim.Native.Nat.{ℕ, zero, suc, _+_, _*_, _-_, _/_, _^_, _≤_, _<_}
-use mathlib.Core.Path.{_≡_, refl, ap, sym, _∙_}
+use mathlib.Core.Path.{_≡_, refl, ap, sym, subst, _∙_}
 use mathlib.Core.Bool.{Bool, true, false, not, cond}
 use native.Mathlib.Omega.{arith}
 use native.Mathlib.Nat.{mul-le-mul, le-antisymm, div-div-eq-div-mul, div-le-self, div-one, pow-suc}
 use native.Mathlib.Decide.{decLe}
-use lib.Dec.{T, leb, leb→le, nleb→lt}
-use borrow.Author.Tests.{le-leb, lt-leb}
-use Rattle.number.specs.Root.{Root, rootBy, rootOf}
+use lib.Dec.{T, eqb, leb, leb→le, nleb→lt, eqb→eq}
+use Rattle.number.specs.Root.{Root, Roots, rootBy, rootOf}
 
 -- there is only one such number
 at-most : (x r s : ℕ) → Root x r → Root x s → r ≤ s
@@ -19,27 +18,45 @@ at-most x r s h k = either (decLe r s)
         let p : s + 1 ≤ r = omega arith in
         omega (arith, mul-le-mul p p, h .low, k .high)
 
-pub root-only : (x r s : ℕ) → Root x r → Root x s → r ≡ s
+root-only : (x r s : ℕ) → Root x r → Root x s → r ≡ s
 root-only x r s h k = le-antisymm (at-most x r s h k) (at-most x s r k h)
 
--- one pair of bits more
-choose : (x r : ℕ) (t : Bool) → (T t → (r + 1) * (r + 1) ≤ x) → (T (not t) → x < (r + 1) * (r + 1)) → r * r ≤ x → x < (r + 2) * (r + 2) → Root x (cond t (r + 1) r)
-choose x r true f g h k = record { low = f tt; high = omega arith }
-choose x r false f g h k = record { low = h; high = g tt }
+-- ---- a pair of bits more: s is the root of x / 4
+pub root-more : (x s : ℕ) → Root (x / 4) s → (2 * s + 1) * (2 * s + 1) ≤ x → Root x (2 * s + 1)
+root-more x s h k = record { low = k; high = omega (arith, h .high) }
 
-pub by-is : (k x : ℕ) → x < 4 ^ k → Root x (rootBy k x)
+pub root-same : (x s : ℕ) → Root (x / 4) s → x < (2 * s + 1) * (2 * s + 1) → Root x (2 * s)
+root-same x s h k = record { low = omega (arith, h .low); high = k }
+
+-- ---- the definition gives the root
+root-of-0 : (x : ℕ) → x ≡ 0 → Root x 0
+root-of-0 x e = record { low = omega arith; high = omega arith }
+
+chosen : (x s : ℕ) (t : Bool) → Root (x / 4) s →
+    (T t → (2 * s + 1) * (2 * s + 1) ≤ x) → (T (not t) → x < (2 * s + 1) * (2 * s + 1)) → Root x (cond t (2 * s + 1) (2 * s))
+chosen x s true h f g = root-more x s h (f tt)
+chosen x s false h f g = root-same x s h (g tt)
+
+either-is : (x r : ℕ) (t : Bool) → (T t → x ≡ 0) → Root x r → Root x (cond t 0 r)
+either-is x r true f h = root-of-0 x (f tt)
+either-is x r false f h = h
+
+by-is : (turns x : ℕ) → x ≤ turns → Root x (rootBy turns x)
 unfolding rootBy
-by-is zero x h = omega arith
-by-is (suc k) x h =
-    let s = rootBy k (x / 4) in
-    let i : Root (x / 4) s = by-is k (x / 4) (omega arith) in
-    choose x (2 * s) (leb ((2 * s + 1) * (2 * s + 1)) x) (leb→le ((2 * s + 1) * (2 * s + 1)) x) (nleb→lt ((2 * s + 1) * (2 * s + 1)) x)
-    (omega arith) (omega arith)
+by-is zero x h = root-of-0 x (omega arith)
+by-is (suc turns) x h =
+    let s = rootBy turns (x / 4) in
+    let odd = (2 * s + 1) * (2 * s + 1) in
+    either-is x (cond (leb odd x) (2 * s + 1) (2 * s)) (eqb x 0) (eqb→eq x 0)
+    (chosen x s (leb odd x) (by-is turns (x / 4) (omega arith)) (leb→le odd x) (nleb→lt odd x))
 
--- r·r ≤ x < (r + 1)·(r + 1), for every number of 64 bits
-pub root-is : (x : ℕ) → x < 2 ^ 64 → Root x (rootOf x)
+-- r·r ≤ x < (r + 1)·(r + 1), for every number
+pub root-is : (x : ℕ) → Root x (rootOf x)
 unfolding rootOf
-root-is x h = by-is 32 x h
+root-is x = by-is x x (omega arith)
+
+pub root-of : Roots rootOf
+root-of = record { is = root-is; only = λ x r h. root-only x r (rootOf x) h (root-is x) }
 
 -- ---- the loop, of which `left` pairs are yet to come: r is the root of the pairs that were taken
 quarter : (x left : ℕ) → x / 2 ^ (2 * (left + 1)) ≡ x / 2 ^ (2 * left) / 4
@@ -51,48 +68,32 @@ quarter x left = ap (λ (m : ℕ). x / m) power ∙ sym (div-div-eq-div-mul x (2
     power : 2 ^ (2 * (left + 1)) ≡ 2 ^ (2 * left) * 4
     power = ap (λ (n : ℕ). 2 ^ n) two-more ∙ omega (arith, pow-suc 2 (suc (2 * left)), pow-suc 2 (2 * left))
 
--- its square is at most what was taken
-low-chosen : (x s : ℕ) (t : Bool) → (T t → (2 * s + 1) * (2 * s + 1) ≤ x) → s * s ≤ x / 4 → cond t (2 * s + 1) (2 * s) * cond t (2 * s + 1) (2 * s) ≤ x
-low-chosen x s true f h = f tt
-low-chosen x s false f h = omega arith
+-- all pairs but the last `left`
+abbrev pub taken : ℕ → ℕ → ℕ
+taken x left = x / 2 ^ (2 * left)
 
-by-low : (k x : ℕ) → rootBy k x * rootBy k x ≤ x
-unfolding rootBy
-by-low zero x = omega arith
-by-low (suc k) x =
-    let s = rootBy k (x / 4) in
-    low-chosen x s (leb ((2 * s + 1) * (2 * s + 1)) x) (leb→le ((2 * s + 1) * (2 * s + 1)) x) (by-low k (x / 4))
+-- one pair before
+pub one-before : (x left r : ℕ) → 0 < left → Root (taken x left) r → Root (taken x (left - 1) / 4) r
+one-before x left r h k =
+    let e : left ≡ left - 1 + 1 = omega arith in
+    subst (λ (y : ℕ). Root y r) (ap (taken x) e ∙ quarter x (left - 1)) k
 
-module _ (k left x r : ℕ) (e : r ≡ rootBy k (x / 2 ^ (2 * (left + 1)))) where
-  -- twice the root, and one, has a square of 64 bits
-  pub root-small : x < 2 ^ 64 → r < 2147483648
-  root-small h = either (decLe 2147483648 r)
-    where
-      square : r * r ≤ x / 4
-      square = rw e (omega (arith, by-low k (x / 2 ^ (2 * (left + 1))), quarter x left, div-le-self x (2 ^ (2 * left))))
-
-      either : Dec (2147483648 ≤ r) → r < 2147483648
-      either (yes p) = absurd (omega (arith, mul-le-mul p p, square))
-      either (no f) = omega arith
-
-  pub root-more : (2 * r + 1) * (2 * r + 1) ≤ x / 2 ^ (2 * left) → 2 * r + 1 ≡ rootBy (suc k) (x / 2 ^ (2 * left))
-  unfolding rootBy
-  root-more h = rw (← quarter x left, ← e, le-leb ((2 * r + 1) * (2 * r + 1)) (x / 2 ^ (2 * left)) h) refl
-
-  pub root-same : x / 2 ^ (2 * left) < (2 * r + 1) * (2 * r + 1) → 2 * r ≡ rootBy (suc k) (x / 2 ^ (2 * left))
-  unfolding rootBy
-  root-same h = rw (← quarter x left, ← e, lt-leb ((2 * r + 1) * (2 * r + 1)) (x / 2 ^ (2 * left)) h) refl
+-- twice the root, and one, has a square of 64 bits
+pub root-small : (x left r : ℕ) → x < 2 ^ 64 → Root (taken x left / 4) r → r < 2147483648
+root-small x left r h k = either (decLe 2147483648 r)
+  where
+    either : Dec (2147483648 ≤ r) → r < 2147483648
+    either (yes p) = absurd (omega (arith, mul-le-mul p p, k .low, div-le-self x (2 ^ (2 * left))))
+    either (no f) = omega arith
 
 -- before the first pair and after the last
-pub root-begins : (x : ℕ) → 0 ≡ rootBy (32 - 32) (x / 2 ^ (2 * 32))
-unfolding rootBy
-root-begins x = refl
+pub root-begins : (x : ℕ) → x < 2 ^ 64 → Root (taken x 32) 0
+root-begins x h = root-of-0 (taken x 32) (omega arith)
 
-pub root-ends : (x left r : ℕ) → left ≡ 0 → r ≡ rootBy (32 - left) (x / 2 ^ (2 * left)) → r ≡ rootOf x
-unfolding rootOf
-root-ends x left r z e = e ∙ ap (λ (n : ℕ). rootBy (32 - n) (x / 2 ^ (2 * n))) z ∙ ap (rootBy 32) (div-one x)
+pub root-ends : (x left r : ℕ) → left ≡ 0 → Root (taken x left) r → r ≡ rootOf x
+root-ends x left r z h = root-of .only x r (subst (λ (y : ℕ). Root y r) (ap (taken x) z ∙ div-one x) h)
 
--- the definition computes: the root of 2^46
-example : rootOf 70368744177664 ≡ 8388608
+-- the definition computes: the root of 2^46, of one less, and of a number that no machine word holds, 2^202
+example : (rootOf 70368744177664 ≡ 8388608) × (rootOf 70368744177663 ≡ 8388607) × (rootOf (2 ^ 202) ≡ 2 ^ 101)
 unfolding rootOf rootBy
-example = refl
+example = (refl, refl, refl)

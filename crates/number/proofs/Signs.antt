@@ -9,7 +9,7 @@ use lib.Signed.{ltZ, mag, nonNeg, natAbs-le}
 use mir.Syntax.{w64}
 use mir.Val.{SFits}
 use Rattle.number.specs.Sign.{withSign, lessened}
-use Rattle.number.proofs.Signed.{signs, neg-is, add-is, diff-is, up, dn, ltZ-true, ltZ-false, norm}
+use Rattle.number.proofs.Signed.{signs, neg-is, add-is, diff-is, up, dn, ltZ-true, ltZ-false}
 use Rattle.number.proofs.Fits.{range, within}
 
 -- the number of size m with the sign of z has that size, and on the other side of 0 nothing

@@ -5,7 +5,7 @@ ghost use lib.IntN.{natAbs, _*ℤ_};
 ghost use Rattle.number.specs.Range.{in24, heldWithin, clipped, capped};
 ghost use Rattle.number.specs.Sign.{withSign, lessened, squareOf};
 ghost use Rattle.number.specs.Rounding.{floorDiv, towardZero};
-ghost use Rattle.number.specs.Root.{rootBy, rootOf};
+ghost use Rattle.number.specs.Root.{rootOf};
 
 // Whether x is in the 24-bit range.
 pub fn in_range(x: i32) -> bool

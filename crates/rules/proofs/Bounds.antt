@@ -1,31 +1,29 @@
 -- Bounds on the registers: each fits its 24 bits, and no step on the way overflows.
-use Prim.Native.Nat.{ℕ, _+_, _*_, _-_, _/_, _^_, _<_, _≤_, min}
-use mathlib.Core.Path.{_≡_, refl, ap, _∙_}
+use Prim.Native.Nat.{ℕ, _+_, _*_, _-_, _/_, _≤_, min}
+use mathlib.Core.Path.{_≡_}
 use mathlib.Core.Bool.{Bool, true, false, cond}
 use native.Mathlib.Nat.{div-zero, mul-le-mul, le-refl}
 use native.Mathlib.Omega.{arith}
 use lib.Dec.{eqb, ltb}
-use lib.IntN.{ℤ, pos, negsuc, natAbs, _*ℤ_}
-use lib.Signed.{mag, natAbs-le}
+use lib.IntN.{ℤ, pos, negsuc, _*ℤ_}
 use mir.Syntax.{w32, w64}
 use mir.Val.{SFits, toZ}
 use mir.Facts.{toZ-pos}
 use Rattle.number.specs.Range.{heldWithin, clipped}
 use Rattle.number.specs.Sign.{lessened}
-use Rattle.number.specs.Root.{rootBy, rootOf}
-use Rattle.number.proofs.Signed.{up, dn, norm, abs-is, ltZ-false}
+use Rattle.number.specs.Root.{Root, rootOf}
+use Rattle.number.proofs.Signed.{up, dn, norm, ltZ-false}
 use Rattle.number.proofs.Fits.{within, size-of, size-nat, size-mul, size-fits}
-use Rattle.number.proofs.Ranges.{held-is, clipped-is, clipped-mag}
+use Rattle.number.proofs.Ranges.{held-is, clipped-is}
 use Rattle.number.proofs.Signs.{lessened-is}
+use Rattle.number.proofs.Roots.{root-of}
 use Rattle.rules.specs.Rules.{rms, squelched, apparentOf, crestOf}
 
 -- ---- the root of the mean square
-root-of-none : min (rootOf 0) 8388607 ≡ 0
-unfolding rootOf rootBy
-root-of-none = refl
-
 root-none : (m : ℕ) → m ≡ 0 → min (rootOf m) 8388607 ≡ 0
-root-none m e = ap (λ (x : ℕ). min (rootOf x) 8388607) e ∙ root-of-none
+root-none m e =
+    let h : Root m 0 = record { low = omega arith; high = omega arith } in
+    omega (arith, root-of .only m 0 h)
 
 pub rms-none : (sum n less : ℕ) → sum / n ≤ less → rms sum n less ≡ 0
 unfolding rms

@@ -1,3 +1,5 @@
 -- Laws of the registers' rules.
 pub mod Bounds
+pub mod Places
+pub mod Rms
 pub mod Decided

@@ -2,11 +2,17 @@
 ghost use mathlib.Core.Path.{_≡_};
 ghost use Prim.Native.Nat.{_≤_, _*_};
 ghost use lib.IntN.{natAbs};
-ghost use Rattle.number.specs.Sign.{squareOf};
+ghost use Rattle.number.specs.Range.{capped};
 ghost use Rattle.rules.specs.Rules.{rms, squelched, activeOf, apparentOf, factorOf, crestOf};
 ghost use Rattle.rules.specs.Source.{vrmsOf, irmsOf, wattOf, ipeakOf, six, figuresOf};
 use card::Card;
+use card::names::IRMSOFFS;
+use card::names::POFFS;
+use card::names::SQUELCH;
 use sample::Flow;
+
+// The place of P among the six figures.
+pub const WATT: usize = 2;
 
 // The root of the mean square less a square. No samples have the root 0.
 fn root_mean_square(sum: u64, n: u32, less: u64) -> u32
@@ -75,15 +81,18 @@ fn irms(c: Card, f: Flow, n: u32) -> u32
     ensures { λ r. ⌜ r ≡ irmsOf c f n ⌝ }
 {
     let x = c.fields;
-    squelch(x[6], root_mean_square(f.ii, n, number::square(x[5])))
+    squelch(
+        x[SQUELCH],
+        root_mean_square(f.ii, n, number::square(x[IRMSOFFS])),
+    )
 }
 
 // P of one current source.
-pub fn watt(c: Card, f: Flow, n: u32) -> i32
+fn watt(c: Card, f: Flow, n: u32) -> i32
     ensures { λ r. ⌜ r ≡ wattOf c f n ⌝ }
 {
     let x = c.fields;
-    active(f.vi, n, x[7])
+    active(f.vi, n, x[POFFS])
 }
 
 fn ipeak(f: Flow) -> u32
@@ -103,13 +112,12 @@ fn lay(v: u32, i: u32, peak: u32, p: i32) -> [i32; 6]
     [i as i32, peak as i32, p, s as i32, f, c as i32]
 }
 
-// The figures of one current source; vv is the sum of the voltage squares.
-pub fn figures(c: Card, vv: u64, f: Flow, n: u32) -> [i32; 6]
-    ensures { λ r. ⌜ r ≡ figuresOf c (vrmsOf vv n) f n ⌝ }
+// The figures of one current source; v is VRMS, and a number larger than any VRMS counts as the largest.
+pub fn figures(c: Card, v: u32, f: Flow, n: u32) -> [i32; 6]
+    ensures { λ r. ⌜ r ≡ figuresOf c (capped v) f n ⌝ }
 {
-    let v = vrms(vv, n);
     let i = irms(c, f, n);
     let k = ipeak(f);
     let p = watt(c, f, n);
-    lay(v, i, k, p)
+    lay(number::cap(v as u64), i, k, p)
 }

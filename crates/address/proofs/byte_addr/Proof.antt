@@ -1,12 +1,11 @@
 -- `byte_addr` meets its contract.
-use mathlib.Core.Path.{_≡_, refl}
-use mathlib.Core.Bool.{true, false}
+use mathlib.Core.Path.{_≡_}
+use mathlib.Core.Bool.{false}
 use lib.IntN.{pos}
 use lib.Signed.{ltZ}
 use mir.Syntax.{w64}
 use mir.Facts.{toZ-ofZ, fits-natAbs}
 use Rattle.number.proofs.Signs.{above-nonneg}
-use Rattle.address.specs.Addresses.{byteAddr}
 use Rattle.address.proofs.Places.{byte-below, byte-above}
 use Rattle.address.proofs.byte_addr.Statement.{statement}
 use Rattle.address.proofs.byte_addr.Tie as tie

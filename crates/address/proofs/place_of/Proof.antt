@@ -3,7 +3,7 @@ use Rattle.address.proofs.Places.{position-at, position-none, first-sev
 use Rattle.address.specs.Addresses.{placeOf, words, trackable, untracked}
 use mathlib.Core.Path.{_≡_, sym, _∙_}
 use Prim.Native.Nat.{ℕ, _≤_, _<_, _-_}
-use lib.ListN.{length, getD}
+use lib.ListN.{getD}
 use native.Mathlib.Omega.{arith}
 use borrow.Author.Needs.{needs}
 use borrow.Author.Count.{below-none, below-more}

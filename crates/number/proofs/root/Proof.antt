@@ -1,39 +1,27 @@
 -- `number::root` meets its contract. The loop keeps r the root of the pairs of bits that were taken, all but the last `left`.
 use native.Mathlib.Omega.{arith}
 use native.Mathlib.Nat.{mul-le-mul}
-use mathlib.Core.Path.{_≡_, refl, sym, ap, _∙_}
-use Prim.Native.Nat.{ℕ, suc, _+_, _*_, _-_, _/_, _^_, _≤_, _<_}
-use Rattle.number.specs.Root.{rootBy, rootOf}
-use Rattle.number.proofs.Roots.{root-small, root-more, root-same, root-begins, root-ends}
+use Prim.Native.Nat.{_+_, _*_, _-_, _/_, _≤_, _<_}
+use Rattle.number.specs.Root.{Root}
+use Rattle.number.proofs.Roots.{taken, one-before, root-small, root-more, root-same, root-begins, root-ends}
 use Rattle.number.proofs.root.Statement.{statement}
 use Rattle.number.proofs.root.Tie as tie
-use Rattle.number.proofs.root.Reads as reads
-use Rattle.number.proofs.root.Lts as lts
 
 abbrev Inv-loop : tie.InvT-loop
-Inv-loop x r₀ left₀ r left = (left ≤ 32) × (r ≡ rootBy (32 - left) (x / 2 ^ (2 * left)))
+Inv-loop x r₀ left₀ r left = (left ≤ 32) × Root (taken x left) r
 
 abbrev μ-loop : tie.MeasureT-loop
 μ-loop x r₀ left₀ r left = left
 
 loop-holds : tie.Need-loop-holds Inv-loop μ-loop
-loop-holds c = (omega arith, root-begins (c .args .x))
+loop-holds c = (omega arith, root-begins (c .args .x) (omega (arith, c .fits .x)))
 
--- what a turn starts from, one pair before
-taken : (c : tie.In-loop Inv-loop μ-loop) →
-    let left = c .before .loop .left - 1 in
-    c .before .loop .r ≡ rootBy (31 - left) (c .before .before .args .x / 2 ^ (2 * (left + 1)))
-taken c =
-    let left = c .before .loop .left in
-    let h : left ≡ left - 1 + 1 = omega arith in
-    let k : 32 - left ≡ 31 - (left - 1) = omega arith in
-    c .before .loop .inv .1 ∙ ap (λ (n : ℕ). rootBy n (c .before .before .args .x / 2 ^ (2 * left))) k
-    ∙ ap (λ (n : ℕ). rootBy (31 - (left - 1)) (c .before .before .args .x / 2 ^ (2 * n))) h
+-- what a turn starts from: r is the root of a quarter of the pairs that it takes
+before : (c : tie.In-loop Inv-loop μ-loop) → Root (taken (c .before .before .args .x) (c .before .loop .left - 1) / 4) (c .before .loop .r)
+before c = one-before (c .before .before .args .x) (c .before .loop .left) (c .before .loop .r) (omega arith) (c .before .loop .inv .1)
 
 small : (c : tie.In-loop Inv-loop μ-loop) → c .before .loop .r < 2147483648
-small c =
-    let left = c .before .loop .left - 1 in
-    root-small (31 - left) left (c .before .before .args .x) (c .before .loop .r) (taken c) (omega (arith, c .before .before .fits .x))
+small c = root-small (c .before .before .args .x) (c .before .loop .left - 1) (c .before .loop .r) (omega (arith, c .before .before .fits .x)) (before c)
 
 sub-left : tie.Need-sub-left Inv-loop μ-loop
 sub-left c = omega arith
@@ -61,14 +49,10 @@ shr-if1 c = omega arith
 loop-less : tie.Need-loop-less Inv-loop μ-loop
 loop-less c = omega arith
 
-one-more : (c : tie.In-loop Inv-loop μ-loop) → suc (31 - (c .before .loop .left - 1)) ≡ 32 - (c .before .loop .left - 1)
-one-more c = omega arith
-
 loop-again : tie.Need-loop-again Inv-loop μ-loop
 loop-again c =
-    let left = c .before .before .loop .left - 1 in
-    let x = c .before .before .before .args .x in
-    (omega arith, root-more (31 - left) left x (c .before .before .loop .r) (taken (c .before)) (c .if1 .taken) ∙ ap (λ (n : ℕ). rootBy n (x / 2 ^ (2 * left))) (one-more (c .before)))
+    let at = c .before .before .loop in
+    (omega arith, root-more (taken (c .before .before .before .args .x) (at .left - 1)) (at .r) (before (c .before)) (c .if1 .taken))
 
 mul-r : tie.Need-mul-r Inv-loop μ-loop
 mul-r c = omega (arith, small (c .before))
@@ -78,9 +62,8 @@ loop-less-2 c = omega arith
 
 loop-again-2 : tie.Need-loop-again-2 Inv-loop μ-loop
 loop-again-2 c =
-    let left = c .before .before .loop .left - 1 in
-    let x = c .before .before .before .args .x in
-    (omega arith, root-same (31 - left) left x (c .before .before .loop .r) (taken (c .before)) (c .if1 .left) ∙ ap (λ (n : ℕ). rootBy n (x / 2 ^ (2 * left))) (one-more (c .before)))
+    let at = c .before .before .loop in
+    (omega arith, root-same (taken (c .before .before .before .args .x) (at .left - 1)) (at .r) (before (c .before)) (c .if1 .left))
 
 returns : tie.Need-returns Inv-loop μ-loop
 returns c = root-ends (c .before .before .args .x) (c .before .loop .left) (c .before .loop .r) (omega arith) (c .before .loop .inv .1)

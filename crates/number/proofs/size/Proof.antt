@@ -1,7 +1,7 @@
 -- `number::size` meets its contract.
 use native.Mathlib.Omega.{arith}
 use mathlib.Core.Path.{_≡_}
-use mathlib.Core.Bool.{true, false}
+use mathlib.Core.Bool.{true}
 use borrow.Author.Needs.{needs}
 use lib.IntN.{pos, _+ℤ_}
 use lib.Signed.{ltZ, mag}
@@ -11,8 +11,6 @@ use mir.Facts.{toZ-ofZ, fits-natAbs}
 use Rattle.number.proofs.Signs.{more-fits, flipped, abs-below, above-nonneg}
 use Rattle.number.proofs.size.Statement.{statement}
 use Rattle.number.proofs.size.Tie as tie
-use Rattle.number.proofs.size.Lts as lts
-use Rattle.number.proofs.size.Reads as reads
 
 below : (c : tie.Then1) → ltZ (c .before .args .x) (pos 0) ≡ true
 below c = rw (toZ-ofZ (c .before .fits .x)) at (c .if1 .taken)

@@ -1,7 +1,6 @@
 -- `number::toward_zero` meets its contract.
 use borrow.Author.Needs.{needs}
 use native.Mathlib.Nat.{div-le-self}
-use native.Mathlib.Omega.{arith}
 use mathlib.Core.Path.{_≡_}
 use lib.IntN.{natAbs}
 use mir.Syntax.{w64}

@@ -1,7 +1,6 @@
 -- `lay` meets its contract.
 use borrow.Author.Needs.{needs, sfits-of}
 use native.Mathlib.Omega.{arith}
-use mathlib.Core.Path.{_≡_}
 use Prim.Native.Nat.{_≤_}
 use mir.Syntax.{w32}
 use mir.Val.{SFits}

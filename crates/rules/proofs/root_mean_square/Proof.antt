@@ -1,5 +1,5 @@
 -- `root_mean_square` meets its contract.
-use mathlib.Core.Path.{_≡_, sym, ap, _∙_}
+use mathlib.Core.Path.{sym, ap, _∙_}
 use Prim.Native.Nat.{ℕ}
 use Rattle.rules.specs.Rules.{rms}
 use Rattle.rules.proofs.Bounds.{rms-of-none, rms-none}

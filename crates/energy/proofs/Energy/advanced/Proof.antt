@@ -1,11 +1,11 @@
 -- `advanced` meets its contract: neither sum nor product is made that could wrap.
 use native.Mathlib.Omega.{arith}
 use native.Mathlib.Nat.{mod-lt}
-use mathlib.Core.Path.{_≡_, refl, sym, ap, _∙_}
-use Prim.Native.Nat.{ℕ, _+_, _%_, _<_}
+use mathlib.Core.Path.{sym}
+use Prim.Native.Nat.{_<_}
 use borrow.Author.Tests.{eq-eqb}
 use Rattle.energy.specs.Energies.{advanced}
-use Rattle.energy.proofs.Buckets.{without-carry, with-carry, cut-before, advanced-is}
+use Rattle.energy.proofs.Buckets.{without-carry, with-carry, advanced-is}
 use borrow.Author.Needs.{needs}
 use Rattle.energy.proofs.Energy.advanced.Statement.{statement}
 use Rattle.energy.proofs.Energy.advanced.Tie as tie

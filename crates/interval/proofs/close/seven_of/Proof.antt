@@ -6,7 +6,7 @@ use mir.Syntax.{w32}
 use mir.Val.{SFits}
 use mir.Facts.{toZ-ofZ}
 use Rattle.interval.proofs.Slots.{six-all}
-use mathlib.Core.List.{List, [], _∷_}
+use mathlib.Core.List.{List, _∷_}
 use Rattle.interval.specs.Close.{sevenOf}
 use borrow.Author.Needs.{needs}
 use Rattle.interval.proofs.close.seven_of.Statement.{statement}

@@ -7,7 +7,7 @@ use mir.Val.{SFits}
 use lib.IntN.{pos}
 use lib.ListN.{getD, length, List·getD-eq-default}
 use Rattle.interval.specs.Tracking.{tracked}
-use borrow.Author.Needs.{needs, sfits-of}
+use borrow.Author.Needs.{needs}
 use Rattle.interval.proofs.track.tracked_of.Statement.{statement}
 use Rattle.interval.proofs.track.tracked_of.Tie as tie
 

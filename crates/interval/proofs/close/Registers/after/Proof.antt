@@ -1,9 +1,7 @@
 -- `Registers::after` meets its contract.
-use mathlib.Core.Path.{_≡_, refl, ap, _∙_}
-use Prim.Native.Nat.{_≤_}
-use mir.Syntax.{w32}
-use mir.Val.{toZ}
-use lib.IntN.{pos}
+use mathlib.Core.Path.{_≡_}
+use Prim.Native.Nat.{_≤_, min}
+use native.Mathlib.Omega.{arith}
 use Rattle.rules.specs.Source.{vrmsOf}
 use Rattle.interval.specs.Close.{registersAfter}
 use Rattle.rules.proofs.Bounds.{rms-most, small-fits, read-small}
@@ -14,6 +12,7 @@ use Rattle.interval.proofs.close.Registers.after.Tie as tie
 vrms-requires : tie.Need-vrms-requires
 vrms-requires c κs = search needs
 
+-- VRMS is never more than it may be
 volts-most : (c : tie.After-vrms) → c .vrms .result ≤ 8388607
 unfolding vrmsOf
 volts-most c = rw (c .vrms .ensures) (rms-most _ _ _)
@@ -36,7 +35,8 @@ returns c =
     let seven = c .before .before .before in
     let source = seven .before .before in
     let v = source .before .before .before in
-    rw (c .follow .ensures, seven .seven-of .ensures, source .after .ensures, read-small (v .vrms .result) (volts-most v), v .vrms .ensures)
+    let capped-is : min (v .vrms .result) 8388607 ≡ v .vrms .result = omega (arith, volts-most v) in
+    rw (c .follow .ensures, seven .seven-of .ensures, source .after .ensures, read-small (v .vrms .result) (volts-most v), capped-is, v .vrms .ensures)
 
 pub after-spec : {M : Type 1} → statement M
 after-spec =

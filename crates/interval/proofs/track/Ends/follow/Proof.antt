@@ -1,6 +1,6 @@
 -- `follow` meets its contract: each turn lays one slot over what it had.
 use Prim.Native.Nat.{ℕ, _≤_, _<_, _-_}
-use mathlib.Core.Path.{_≡_, refl, sym, _∙_}
+use mathlib.Core.Path.{_≡_, refl, _∙_}
 use mathlib.Core.Bool.{Bool}
 use mathlib.Core.List.{List}
 use native.Mathlib.Omega.{arith}
@@ -13,7 +13,7 @@ use lib.IntN.{ℤ, pos}
 use Rattle.address.specs.declared.WordAddr.{WordAddr}
 use Rattle.address.specs.Slots.{off}
 use Rattle.interval.specs.Tracking.{tracked, lowest, highest, slots, followed}
-use Rattle.interval.proofs.Slots.{over, over-more, over-all, over-at, over-long, slot-at}
+use Rattle.interval.proofs.Slots.{over, over-more, over-all, over-at, slot-at}
 use Rattle.interval.proofs.track.Ends.follow.Statement.{statement}
 use Rattle.interval.proofs.track.Ends.follow.Tie as tie
 
