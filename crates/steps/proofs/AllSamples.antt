@@ -162,7 +162,7 @@ module _ (G : Gauge) where
         by (hold k) r e = to (P .copy k (s .meter)) (didHold P p k s) (λ h. refl) r e
         by (read a) r e = to (P .look (on (s .holds) p) a) (didRead P p a s) (λ v. refl) r e
 
-    all-fed : (xs : List (Step P)) → Fed xs
+    pub all-fed : (xs : List (Step P)) → Fed xs
     all-fed [] s = refl
     all-fed (atPort none op ∷ xs) s = all-fed xs s
     all-fed (atPort (some p) op ∷ xs) s = port-fed (some p) op xs s (all-fed xs) (stepAt P p op s) (aside p op s)

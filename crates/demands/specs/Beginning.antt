@@ -1,0 +1,38 @@
+-- What a start returns: the settings asked for, or 7 and the lowest; and in either case a fresh module.
+use Prim.Native.Nat.{ℕ}
+use mathlib.Core.Path.{_≡_}
+use mathlib.Core.Bool.{true, false, cond, _&&_}
+use lib.IntN.{natAbs}
+use lib.ListN.{replicate}
+use Rattle.steps.specs.declared.Answer.the-variants.{Done, Refused}
+use Rattle.address.specs.Slots.{off, everySlot}
+use Rattle.energy.specs.Energies.{noEnergy}
+use Rattle.interval.specs.declared.close.Settings.{Settings}
+use Rattle.meter.specs.Starting.{numbersOk}
+use Rattle.aberzhan.specs.declared.Module.{Module}
+use Rattle.demands.specs.Program.{Program, first, settings}
+
+-- no card, no interval, counts and remainders 0; no port is open, nothing is held
+pub record Fresh (z : Module) : Type 0 where
+  pub none-waits : z .meter .waits ≡ false
+  pub none-in-force : z .meter .forced ≡ false
+  pub no-sample : z .meter .taken ≡ 0
+  pub none-closed : z .meter .work .any ≡ false
+  pub plus : z .meter .work .last .regs .a .plus ≡ noEnergy
+  pub minus : z .meter .work .last .regs .a .minus ≡ noEnergy
+  pub port0-shut : z .desk0 .opened ≡ false
+  pub port1-shut : z .desk1 .opened ≡ false
+  pub port0-unheld : z .hold0 .any ≡ false
+  pub port1-unheld : z .hold1 .any ≡ false
+
+-- N 1, B 1, all slots off
+abbrev pub lowestSettings : Settings
+lowestSettings = record { n = 1; b = 1; track = replicate 6 off }
+
+pub record Begins (p : Program) : Type 0 where
+  pub answer : p .started .answer ≡ cond (numbersOk (p .n) (p .b) && everySlot (p .track)) Done (Refused 7)
+  pub settings-are : settings p ≡ cond (numbersOk (p .n) (p .b) && everySlot (p .track)) (record { n = natAbs (p .n); b = natAbs (p .b); track = p .track }) lowestSettings
+  pub fresh : Fresh (first p)
+
+abbrev pub EveryStart : Type 0
+EveryStart = (p : Program) → Begins p

@@ -1,0 +1,7 @@
+-- What the module promises of every program of calls, in reading order.
+pub mod Program
+pub mod Beginning
+pub mod Demand3
+pub mod Intervals
+pub mod EnergyHistory
+pub mod History
