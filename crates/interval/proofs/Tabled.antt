@@ -12,8 +12,8 @@ use Rattle.rules.specs.Rules.{rms, squelched, activeOf, apparentOf, factorOf, c
 use Rattle.rules.specs.Source.{vrmsOf, irmsOf, wattOf, ipeakOf, six, figuresOf}
 use Rattle.energy.specs.Energies.{advanced, joinedBy, plusAfter, minusAfter}
 use Rattle.interval.specs.Close.{sourceAfter, sevenOf, registersAfter, numberAfter, closedOf}
-use Rattle.interval.specs.Figures.{plain, having, interval, vrms, figure, irms, watt, currents, volts, lowest, minusFive, once, twice, beyond, figures}
+use Rattle.interval.specs.Figures.{plain, having, interval, vrms, figure, irms, watt, currents, volts, bothLowest, minusFive, once, twice, beyond, figures}
 
 pub c1-to-c12 : map (λ (f : ℤ × ℤ). f .0) figures ≡ map (λ (f : ℤ × ℤ). f .1) figures
-unfolding figures plain having interval vrms figure irms watt currents volts lowest minusFive once twice beyond voltage current previous phased joined summed added addedAll corrected mixed clipped heldWithin floorDiv towardZero withSign lessened rootOf rootBy rms squelched activeOf apparentOf factorOf crestOf advanced joinedBy plusAfter minusAfter vrmsOf irmsOf wattOf ipeakOf six figuresOf sourceAfter sevenOf registersAfter numberAfter closedOf
+unfolding figures plain having interval vrms figure irms watt currents volts bothLowest minusFive once twice beyond voltage current previous phased joined summed added addedAll corrected mixed clipped heldWithin floorDiv towardZero withSign lessened rootOf rootBy rms squelched activeOf apparentOf factorOf crestOf advanced joinedBy plusAfter minusAfter vrmsOf irmsOf wattOf ipeakOf six figuresOf sourceAfter sevenOf registersAfter numberAfter closedOf
 c1-to-c12 = refl

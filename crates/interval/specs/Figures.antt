@@ -50,8 +50,8 @@ unfoldable pub volts : List ℤ → List Sample
 volts xs = map (λ (v : ℤ). (v, pos 0)) xs
 
 -- both samples -8,388,608
-unfoldable pub lowest : List Sample
-lowest = (negsuc 8388607, negsuc 8388607) ∷ []
+unfoldable pub bothLowest : List Sample
+bothLowest = (negsuc 8388607, negsuc 8388607) ∷ []
 
 -- P -5 before offset: voltage 4,194,304 is a half, times -10
 unfoldable pub minusFive : List Sample
@@ -73,10 +73,10 @@ figures =
     (voltage (having 3 (pos 1048576) plain) (negsuc 0), negsuc 0)  -- C1
     ∷ (voltage (having 3 (pos 4194304) plain) (pos 8388607), pos 8388607)  -- C2
     ∷ (phased (having 5 (pos 2048) plain) (negsuc 0) (pos 0), negsuc 0)  -- C3
-    ∷ (vrms plain lowest, pos 8388607)  -- C4: VRMS, P, S, PF
-    ∷ (figure 2 plain lowest, pos 8388607)
-    ∷ (figure 3 plain lowest, pos 8388606)
-    ∷ (figure 4 plain lowest, pos 4194304)
+    ∷ (vrms plain bothLowest, pos 8388607)  -- C4: VRMS, P, S, PF
+    ∷ (figure 2 plain bothLowest, pos 8388607)
+    ∷ (figure 3 plain bothLowest, pos 8388606)
+    ∷ (figure 4 plain bothLowest, pos 4194304)
     ∷ (vrms plain (volts (pos 3 ∷ pos 4 ∷ [])), pos 3)  -- C5
     ∷ (watt plain ((pos 4194304, negsuc 2) ∷ []), negsuc 0)  -- C6
     ∷ (irms (having 6 (pos 3) plain) (currents (pos 5 ∷ [])), pos 4)  -- C7

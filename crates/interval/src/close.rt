@@ -118,6 +118,7 @@ impl Closed {
         ensures { λ r. ⌜ r ≡ noneClosed ⌝ }
     {
         let serial = Serial::none();
+        let nothing = Energy { count: 0, rest: 0 };
         Closed {
             number: 0,
             serial,
@@ -125,8 +126,8 @@ impl Closed {
                 vrms: 0,
                 a: Source {
                     figures: [0; 6],
-                    plus: Energy { count: 0, rest: 0 },
-                    minus: Energy { count: 0, rest: 0 },
+                    plus: nothing,
+                    minus: nothing,
                 },
                 ends: Ends {
                     low: [0; 6],
