@@ -5,3 +5,4 @@ pub mod Cuts
 pub mod Wholes
 pub mod Energy
 pub mod History
+pub mod Day

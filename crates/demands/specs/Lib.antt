@@ -5,3 +5,4 @@ pub mod Demand3
 pub mod Intervals
 pub mod EnergyHistory
 pub mod History
+pub mod Day

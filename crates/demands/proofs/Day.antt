@@ -1,0 +1,38 @@
+-- The day at a site, computed: the sequence shortens as said, and both sequences close the same intervals, tell the same and leave the same module.
+use mathlib.Core.Path.{refl}
+use Rattle.number.specs.Range.{in24, clipped, heldWithin}
+use Rattle.number.specs.Sign.{withSign, lessened}
+use Rattle.number.specs.Rounding.{floorDiv, towardZero}
+use Rattle.number.specs.Root.{rootOf, rootBy}
+use Rattle.serial.specs.Every.{every}
+use Rattle.serial.specs.Serials.{digitsOk, isSerial, padded, serialOf}
+use Rattle.card.specs.Fields.{lows, highs, fitsField, isField, fieldInRange}
+use Rattle.sample.specs.Sample.{every24, corrected, mixed, voltage, current, phased}
+use Rattle.sample.specs.Sums.{joined, previous, summed, samplesIn, added, emptied, ofAtMost, phaseInRange}
+use Rattle.rules.specs.Rules.{rms, squelched, activeOf, apparentOf, factorOf, crestOf}
+use Rattle.rules.specs.Source.{vrmsOf, irmsOf, wattOf, ipeakOf, six, figuresOf}
+use Rattle.energy.specs.Energies.{advanced, joinedBy, plusAfter, minusAfter}
+use Rattle.address.specs.Addresses.{trackable, untracked, words, position, placeOf, byteOf, registerOf}
+use Rattle.address.specs.Slots.{slotOk, everySlot}
+use Rattle.interval.specs.Tracking.{tracked, further, lowest, highest, followed}
+use Rattle.interval.specs.Close.{sourceAfter, sevenOf, registersAfter, numberAfter, closedOf}
+use Rattle.meter.specs.Core.{samplesOf, lastOf, closedWork}
+use Rattle.meter.specs.Blocks.{waitOf, nextCard, soundOf, blockOf as meterBlock}
+use Rattle.meter.specs.Starting.{numbersOk, freshOf, startOf as meterStart}
+use Rattle.port.specs.Desks.{emptyCard, withField, opening, writing, allWritten, cardOn, finished, discarded}
+use Rattle.port.specs.Holds.{copyOf, copied}
+use Rattle.port.specs.Reading.{registers, slotOff, look}
+use Rattle.aberzhan.specs.Module.{portAt, freshModule, startOf, openOf, writeOf, commitOf, dropOf, holdOf, readOf, blockOf}
+use Rattle.demands.specs.Day.{DayIsSo}
+
+pub day-is-so : DayIsSo
+unfolding startOf meterStart numbersOk everySlot slotOk placeOf position trackable freshOf freshModule portAt opening writing isSerial digitsOk every serialOf padded emptyCard withField isField fieldInRange fitsField lows highs finished allWritten cardOn discarded copied copyOf look registerOf byteOf words untracked slotOff registers samplesOf every24 in24 samplesIn added summed joined previous voltage phased current corrected mixed clipped heldWithin floorDiv closedWork lastOf closedOf numberAfter registersAfter vrmsOf rms rootOf rootBy sourceAfter figuresOf six irmsOf squelched wattOf ipeakOf activeOf towardZero withSign lessened apparentOf factorOf crestOf plusAfter minusAfter joinedBy advanced sevenOf followed tracked further lowest highest emptied openOf writeOf commitOf dropOf holdOf readOf blockOf meterBlock waitOf nextCard soundOf ofAtMost phaseInRange
+day-is-so = record {
+  shortens = refl;
+  refuses = (refl, refl);
+  tells = (refl, refl);
+  closes = (refl, refl);
+  leaves = (refl, refl);
+  cuts = refl;
+  counts = (refl, refl);
+}

@@ -1,0 +1,262 @@
+-- A day at a site, worked through with the module itself: a program of calls by both ports and the sample feed, its shorter sequence, and what
+-- comes of both: a card dropped, one replaced before any sample, a field written twice, a card still open in the evening. `proofs/Day.antt` computes it. N is 2, the bucket 100; slot 1 tracks VA_RMS, the others are off.
+use Prim.Native.Nat.{ℕ, suc}
+use mathlib.Core.Path.{_≡_}
+use mathlib.Core.Bool.{true, false}
+use mathlib.Core.List.{List, [], _∷_, _++_, map}
+use mathlib.Core.Option.{none, some}
+use lib.IntN.{ℤ, pos, negsuc}
+use lib.ListN.{replicate}
+use Rattle.steps.specs.Port.{port0, port1, PerPort}
+use Rattle.steps.specs.Module.{Op, edit, hold, read, Step, atPort, block}
+use Rattle.steps.specs.Run.{run}
+use Rattle.steps.specs.Shorter.{Act, plain, card, stepsOf, shorter}
+use Rattle.steps.specs.OneCard.{Interval, tagged}
+use Rattle.steps.specs.Calls.{asked, runOf}
+use Rattle.serial.specs.declared.Serial.{Serial}
+use Rattle.card.specs.declared.Card.{Card}
+use Rattle.address.specs.declared.WordAddr.{WordAddr}
+use Rattle.address.specs.declared.ByteAddr.{ByteAddr}
+use Rattle.energy.specs.declared.Energy.{Energy}
+use Rattle.interval.specs.declared.close.Closed.{Closed}
+use Rattle.address.specs.Slots.{off}
+use Rattle.meter.specs.Core.{core}
+use Rattle.aberzhan.specs.declared.Module.{Module}
+use Rattle.port.specs.Desks.{Edit, openWith, writeField, shutDesk}
+use Rattle.port.specs.Holds.{Value, interval, register}
+use Rattle.aberzhan.specs.Ports.{ports, aberzhan}
+use Rattle.aberzhan.specs.Module.{startOf}
+use Rattle.aberzhan.specs.Calls.{Call, callOpen, callWrite, callCommit, callDrop, callHold, callRead, callBlock, stateOf, callOf, program}
+use Rattle.aberzhan.proofs.Contracts.{methods}
+use Rattle.demands.specs.Intervals.{cutBy}
+use Rattle.demands.specs.EnergyHistory.{plusOver, minusOver}
+
+-- ---- what is used
+
+-- ASCII digits
+abbrev pub t0417 : List ℕ
+t0417 = 48 ∷ 52 ∷ 49 ∷ 55 ∷ []
+
+abbrev pub t417 : List ℕ
+t417 = 52 ∷ 49 ∷ 55 ∷ []
+
+abbrev pub t600 : List ℕ
+t600 = 54 ∷ 48 ∷ 48 ∷ []
+
+abbrev pub t601 : List ℕ
+t601 = 54 ∷ 48 ∷ 49 ∷ []
+
+-- a card's fields: gain one for the voltage, g for the current, other fields 0
+abbrev pub fieldsOf : ℕ → List ℤ
+fieldsOf g = pos 0 ∷ pos 0 ∷ pos 2097152 ∷ pos g ∷ pos 0 ∷ pos 0 ∷ pos 0 ∷ pos 0 ∷ []
+
+-- all eight fields, from the number k on
+abbrev pub edits : ℕ → List ℤ → List Edit
+edits k [] = []
+edits k (v ∷ vs) = writeField (pos k) v ∷ edits (suc k) vs
+
+abbrev pub writes : ℤ → List Edit → List Call
+writes p [] = []
+writes p (openWith t ∷ es) = callOpen p t ∷ writes p es
+writes p (writeField k v ∷ es) = callWrite p k v ∷ writes p es
+
+abbrev pub cardEdits : List ℕ → ℕ → List Edit
+cardEdits text g = openWith text ∷ edits 1 (fieldsOf g)
+
+abbrev pub fitter : ℤ
+fitter = pos 0
+
+abbrev pub panel : ℤ
+panel = pos 1
+
+abbrev pub byte : ℕ → ByteAddr
+byte a = record { 0 = a }
+
+abbrev pub half : ℤ
+half = pos 4194304
+
+abbrev pub quarter : ℤ
+quarter = pos 2097152
+
+abbrev pub track : List WordAddr
+track = record { 0 = 0x2B } ∷ replicate 5 off
+
+abbrev pub site : Module
+site = startOf (pos 2) (pos 100) track .after
+
+-- ---- the day: port 0 is the fitter's, port 1 the panel's, where the site's reader works
+
+abbrev pub day : List Call
+day =
+    callBlock (half ∷ []) (pos 60 ∷ [])  -- refused, 18: no card yet
+    ∷ callOpen fitter t0417
+    ∷ callOpen fitter t0417  -- refused, 9: the port is open
+    ∷ callCommit fitter  -- refused, 13: no field is written
+    ∷ callWrite fitter (pos 3) (pos 0)  -- refused, 12: VGAIN is not 0
+    ∷ callWrite fitter (pos 9) (pos 1)  -- refused, 11
+    ∷ callOpen panel t417  -- the wrong card: it will be dropped
+    ∷ callWrite fitter (pos 4) (pos 5)  -- a slip: the field is written again below
+    ∷ writes fitter (edits 1 (fieldsOf 2097152))
+    ++ (callWrite panel (pos 3) (pos 9)
+    ∷ callCommit fitter  -- card 0417 waits
+    ∷ callHold panel  -- refused, 14: no interval has closed
+    ∷ callBlock (half ∷ half ∷ half ∷ []) (pos 60 ∷ pos 60 ∷ pos 60 ∷ [])  -- closes interval 1, begins interval 2
+    ∷ callRead panel (byte 0x81)  -- refused, 15: nothing is held there
+    ∷ callHold fitter
+    ∷ callDrop panel  -- card 417 is dropped
+    ∷ callHold panel
+    ∷ writes fitter (cardEdits t600 1)
+    ++ (callCommit fitter  -- card 600 waits: interval 2 is half done
+    ∷ writes panel (cardEdits t601 4194304)
+    ++ (callRead panel (byte 0xE1)
+    ∷ callCommit panel  -- card 601 replaces 600, which no sample met
+    ∷ callBlock (quarter ∷ half ∷ half ∷ []) (pos 60 ∷ negsuc 59 ∷ negsuc 59 ∷ [])  -- closes interval 2, still with card 0417, and interval 3 with card 601
+    ∷ callRead fitter (byte 0x1AD)  -- as it was at the fitter's hold
+    ∷ callRead fitter (byte 0x154)  -- refused, 16
+    ∷ callRead fitter (byte 0x156)  -- refused, 17: slot 2 is off
+    ∷ callHold (pos 256)  -- refused, 8
+    ∷ callHold panel
+    ∷ callRead panel (byte 0x1B6)
+    ∷ callOpen fitter t600  -- a card still open in the evening
+    ∷ callRead panel (byte 0x153)
+    ∷ callBlock (half ∷ []) (pos 60 ∷ [])  -- begins interval 4
+    ∷ callWrite fitter (pos 1) (pos 4) ∷ [])))
+
+-- ---- the shorter day
+
+abbrev pub at0 : Op aberzhan → Act aberzhan
+at0 op = plain (atPort (some port0) op)
+
+abbrev pub at1 : Op aberzhan → Act aberzhan
+at1 op = plain (atPort (some port1) op)
+
+abbrev pub shorterDay : List (Act aberzhan)
+shorterDay =
+    card port0 (openWith t0417 ∷ writeField (pos 4) (pos 5) ∷ edits 1 (fieldsOf 2097152))
+    ∷ plain (block (half ∷ half ∷ half ∷ [], pos 60 ∷ pos 60 ∷ pos 60 ∷ []))
+    ∷ at0 (hold tt) ∷ at0 (read (byte 0x1AD))
+    ∷ at1 (hold tt) ∷ at1 (read (byte 0xE1))
+    ∷ card port0 (cardEdits t600 1)
+    ∷ card port1 (cardEdits t601 4194304)
+    ∷ plain (block (quarter ∷ half ∷ half ∷ [], pos 60 ∷ negsuc 59 ∷ negsuc 59 ∷ []))
+    ∷ at1 (hold tt) ∷ at1 (read (byte 0x1B6)) ∷ at1 (read (byte 0x153))
+    ∷ at0 (edit (openWith t600))
+    ∷ plain (block (half ∷ [], pos 60 ∷ []))
+    ∷ at0 (edit (writeField (pos 1) (pos 4))) ∷ []
+
+-- ---- what comes of both, worked out by hand from document 01
+
+abbrev pub s0417 : Serial
+s0417 = record { len = 4; digits = t0417 ++ replicate 8 0 }
+
+abbrev pub s601 : Serial
+s601 = record { len = 3; digits = t601 ++ replicate 9 0 }
+
+-- five slots are off
+abbrev pub slot1 : ℕ → List ℤ
+slot1 v = pos v ∷ replicate 5 (pos 0)
+
+abbrev pub energy : ℕ → ℕ → Energy
+energy count rest = record { count = count; rest = rest }
+
+-- P is 30: 60 joins the remainder
+abbrev pub interval1 : Closed
+interval1 = record {
+  number = 1;
+  serial = s0417;
+  regs = record {
+    vrms = half;
+    a = record { figures = pos 60 ∷ pos 60 ∷ pos 30 ∷ pos 30 ∷ pos 4194304 ∷ pos 65536 ∷ []; plus = energy 0 60; minus = energy 0 0 };
+    ends = record { low = slot1 4194304; high = slot1 4194304 };
+  };
+}
+
+-- P is 22, S 23: 44 makes one bucket and 4
+abbrev pub interval2 : Closed
+interval2 = record {
+  number = 2;
+  serial = s0417;
+  regs = record {
+    vrms = pos 3315888;
+    a = record { figures = pos 60 ∷ pos 60 ∷ pos 22 ∷ pos 23 ∷ pos 4011942 ∷ pos 65536 ∷ []; plus = energy 1 4; minus = energy 0 0 };
+    ends = record { low = slot1 3315888; high = slot1 4194304 };
+  };
+}
+
+-- the current is doubled by card 601 and turned round: P is -60, and 120 is one bucket and 20 of the other direction
+abbrev pub interval3 : Closed
+interval3 = record {
+  number = 3;
+  serial = s601;
+  regs = record {
+    vrms = half;
+    a = record { figures = pos 120 ∷ pos 120 ∷ negsuc 59 ∷ pos 60 ∷ negsuc 4194303 ∷ pos 65536 ∷ []; plus = energy 1 4; minus = energy 1 20 };
+    ends = record { low = slot1 3315888; high = slot1 4194304 };
+  };
+}
+
+abbrev pub dayClosed : List Closed
+dayClosed = interval1 ∷ interval2 ∷ interval3 ∷ []
+
+abbrev pub dayHeard : PerPort (List (Op aberzhan × Value))
+dayHeard = record {
+  on0 = (hold tt, interval 1 s0417) ∷ (read (byte 0x1AD), register (pos 0)) ∷ [];
+  on1 =
+      (hold tt, interval 1 s0417) ∷ (read (byte 0xE1), register (pos 30))
+      ∷ (hold tt, interval 3 s601) ∷ (read (byte 0x1B6), register (pos 1)) ∷ (read (byte 0x153), register (pos 3315888)) ∷ [];
+}
+
+abbrev pub card601 : Card
+card601 = record { serial = s601; fields = fieldsOf 4194304 }
+
+-- three intervals, each with one card
+abbrev pub dayIntervals : List (Interval core)
+dayIntervals =
+    record { card = record { serial = s0417; fields = fieldsOf 2097152 }; samples = (half, pos 60) ∷ (half, pos 60) ∷ [] }
+    ∷ record { card = record { serial = s0417; fields = fieldsOf 2097152 }; samples = (half, pos 60) ∷ (quarter, pos 60) ∷ [] }
+    ∷ record { card = card601; samples = (half, negsuc 59) ∷ (half, negsuc 59) ∷ [] }
+    ∷ []
+
+-- the module in the evening, one sample into interval 4
+abbrev pub evening : Module
+evening = record {
+  meter = record {
+    waits = false;
+    waiting = card601;
+    forced = true;
+    force = card601;
+    taken = 1;
+    work = record {
+      settings = record { n = 2; b = 100; track = track };
+      sums = record { vv = 17592186044416; flow = record { ii = 14400; vi = pos 503316480; peak = 120 }; seen = true; raw = pos 60 };
+      any = true;
+      last = interval3;
+    };
+  };
+  desk0 = record {
+    opened = true;
+    serial = record { len = 3; digits = t600 ++ replicate 9 0 };
+    fields = pos 4 ∷ replicate 7 (pos 0);
+    written = true ∷ replicate 7 false;
+  };
+  desk1 = shutDesk;
+  hold0 = record { any = true; closed = interval1; track = track };
+  hold1 = record { any = true; closed = interval3; track = track };
+}
+
+-- ---- that it is so
+
+abbrev pub shorterSteps : List (Step aberzhan)
+shorterSteps = stepsOf aberzhan shorterDay
+
+pub record DayIsSo : Type 0 where
+  pub shortens : shorter aberzhan (stateOf site) (asked aberzhan methods site day) ≡ shorterDay
+  -- ten calls of the day are refused (18, 9, 13, 12, 11, 14, 15, 16, 17, 8), and none of the shorter day
+  pub refuses : (program day site .refusals ≡ 10) × (program (map callOf shorterSteps) site .refusals ≡ 0)
+  pub tells : (program day site .heard ≡ dayHeard) × (program (map callOf shorterSteps) site .heard ≡ dayHeard)
+  pub closes : (runOf aberzhan methods site day .closed ≡ dayClosed) × (run aberzhan shorterSteps (stateOf site) .closed ≡ dayClosed)
+  pub leaves : (program day site .end ≡ evening) × (program (map callOf shorterSteps) site .end ≡ evening)
+  -- the rule, from the history alone: each interval has the card that was committed last before its first sample
+  pub cuts : cutBy 2 (tagged core ports none (runOf aberzhan methods site day .history)) ≡ dayIntervals
+  -- and the energy rule over them
+  pub counts : (plusOver (site .meter .work .settings) dayClosed ≡ energy 1 4) × (minusOver (site .meter .work .settings) dayClosed ≡ energy 1 20)
