@@ -7,11 +7,14 @@ use lib.IntN.{ℤ, pos}
 use lib.ListN.{length, drop, getD}
 use Rattle.serial.specs.Serials.{noSerial}
 use Rattle.address.specs.Addresses.{wordAddr, byteAddr}
-use Rattle.port.specs.declared.answers.Answer.{Answer}
-use Rattle.port.specs.declared.answers.Answer.the-variants as answer
+use Rattle.steps.specs.declared.Answer.{Answer}
+use Rattle.steps.specs.declared.Answer.the-variants as answer
+use Rattle.port.specs.declared.holds.Reading.{Reading}
+use Rattle.port.specs.declared.holds.Reading.the-variants as reading
 use Rattle.aberzhan.specs.declared.Module.{Module}
 use Rattle.aberzhan.specs.declared.Stepped.{Stepped}
 use Rattle.aberzhan.specs.declared.Holding.{Holding}
+use Rattle.aberzhan.specs.declared.Looked.{Looked}
 use Rattle.aberzhan.specs.Module.{startOf, openOf, writeOf, commitOf, dropOf, holdOf, readOf, blockOf}
 use Rattle.console.specs.declared.words.Word.{Word}
 use Rattle.console.specs.declared.words.Word.the-variants as word
@@ -33,7 +36,6 @@ unreadTurn m = plainly said.Unread m
 
 abbrev pub saidOf : Answer → Said
 saidOf answer.Done = said.Done
-saidOf (answer.Value x) = said.Value x
 saidOf (answer.Refused n) = said.Refused n
 
 abbrev pub steppedTurn : Stepped → Turn
@@ -41,11 +43,17 @@ steppedTurn s = plainly (saidOf (s .answer)) (s .after)
 
 abbrev pub heldSaid : Answer → Said
 heldSaid answer.Done = said.Held
-heldSaid (answer.Value x) = said.Held
 heldSaid (answer.Refused n) = said.Refused n
 
 abbrev pub heldTurn : Holding → Turn
 heldTurn h = record { said = heldSaid (h .answer); number = h .number; serial = h .serial; after = h .after }
+
+abbrev pub readSaid : Reading → Said
+readSaid (reading.Value x) = said.Value x
+readSaid (reading.Refused n) = said.Refused n
+
+abbrev pub readTurn : Looked → Turn
+readTurn l = plainly (readSaid (l .answer)) (l .after)
 
 -- ---- steps with numbers alone
 
@@ -64,7 +72,7 @@ numbersTurn m word.Write x = steppedTurn (writeOf m (nth x 0) (nth x 1) (nth x 2
 numbersTurn m word.Commit x = steppedTurn (commitOf m (nth x 0))
 numbersTurn m word.Drop x = steppedTurn (dropOf m (nth x 0))
 numbersTurn m word.Hold x = heldTurn (holdOf m (nth x 0))
-numbersTurn m word.Read x = steppedTurn (readOf m (nth x 0) (byteAddr (nth x 1)))
+numbersTurn m word.Read x = readTurn (readOf m (nth x 0) (byteAddr (nth x 1)))
 numbersTurn m word.Open x = unreadTurn m
 numbersTurn m word.Block x = unreadTurn m
 numbersTurn m word.Other x = unreadTurn m

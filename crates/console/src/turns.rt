@@ -1,7 +1,7 @@
 // A line as a step of the module, and what it comes to.
 ghost use mathlib.Core.Path.{_≡_};
 ghost use lib.ListN.{length};
-ghost use Rattle.console.specs.Turns.{unreadTurn, saidOf, steppedTurn, heldSaid, heldTurn, startTurn, numbersTurn, withNumbers, withText, withSamples, turnOf};
+ghost use Rattle.console.specs.Turns.{unreadTurn, saidOf, steppedTurn, heldSaid, heldTurn, readSaid, readTurn, startTurn, numbersTurn, withNumbers, withText, withSamples, turnOf};
 use super::items::take_numbers;
 use super::items::take_samples;
 use super::texts::begins;
@@ -10,12 +10,14 @@ use super::words::arity;
 use super::words::first_word;
 use super::words::letters;
 use aberzhan::Holding;
+use aberzhan::Looked;
 use aberzhan::Module;
 use aberzhan::Stepped;
 use address::byte_addr;
 use address::word_addr;
-use port::answers::Answer;
+use port::holds::Reading;
 use serial::Serial;
+use steps::Answer;
 
 // A longer line is not read.
 const LONGEST: usize = 131071;
@@ -53,7 +55,6 @@ fn said_of(a: Answer) -> Said
 {
     match a {
         Answer::Done => Said::Done,
-        Answer::Value(x) => Said::Value(x),
         Answer::Refused(n) => Said::Refused(n),
     }
 }
@@ -78,7 +79,6 @@ fn said_of_hold(a: Answer) -> Said
 {
     match a {
         Answer::Done => Said::Held,
-        Answer::Value(_) => Said::Held,
         Answer::Refused(n) => Said::Refused(n),
     }
 }
@@ -94,6 +94,30 @@ fn held(h: Holding) -> Turn
         said,
         number: h.number,
         serial,
+        after,
+    }
+}
+
+fn said_of_read(a: Reading) -> Said
+    ensures { λ r. ⌜ r ≡ readSaid a ⌝ }
+{
+    match a {
+        Reading::Value(x) => Said::Value(x),
+        Reading::Refused(n) => Said::Refused(n),
+    }
+}
+
+fn looked(l: Looked) -> Turn
+    ensures { λ r. ⌜ r ≡ readTurn l ⌝ }
+{
+    let answer = l.answer;
+    let after = l.after;
+    let none = Serial::none();
+    let said = said_of_read(answer);
+    Turn {
+        said,
+        number: 0,
+        serial: none,
         after,
     }
 }
@@ -120,7 +144,7 @@ fn numbered(m: Module, w: Word, x: [i64; 8]) -> Turn
         Word::Commit => stepped(m.commit(x[0])),
         Word::Drop => stepped(m.drop(x[0])),
         Word::Hold => held(m.hold(x[0])),
-        Word::Read => stepped(m.read(x[0], byte_addr(x[1]))),
+        Word::Read => looked(m.read(x[0], byte_addr(x[1]))),
         Word::Open => unread(m),
         Word::Block => unread(m),
         Word::Other => unread(m),

@@ -29,16 +29,32 @@ module _ (n b : ℤ) (track : List WordAddr) where
     answer = refl;
     settings = refl;
     fresh = record {
-      none-waits = refl; none-in-force = refl; no-sample = refl; none-closed = refl; plus = refl; minus = refl;
-      port0-shut = refl; port1-shut = refl; port0-unheld = refl; port1-unheld = refl;
+      none-waits = refl;
+      none-in-force = refl;
+      no-sample = refl;
+      none-closed = refl;
+      plus = refl;
+      minus = refl;
+      port0-shut = refl;
+      port1-shut = refl;
+      port0-unheld = refl;
+      port1-unheld = refl;
     };
   }
   by-ok false = record {
     answer = refl;
     settings = refl;
     fresh = record {
-      none-waits = refl; none-in-force = refl; no-sample = refl; none-closed = refl; plus = refl; minus = refl;
-      port0-shut = refl; port1-shut = refl; port0-unheld = refl; port1-unheld = refl;
+      none-waits = refl;
+      none-in-force = refl;
+      no-sample = refl;
+      none-closed = refl;
+      plus = refl;
+      minus = refl;
+      port0-shut = refl;
+      port1-shut = refl;
+      port0-unheld = refl;
+      port1-unheld = refl;
     };
   }
 

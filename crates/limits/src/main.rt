@@ -4,8 +4,8 @@ use aberzhan::Stepped;
 use address::WordAddr;
 use change::Changed;
 use libc::STDOUT_FILENO;
-use port::answers::Answer;
 use serial::Serial;
+use steps::Answer;
 
 fn say(text: &[u8]) {
     io::write_all(STDOUT_FILENO, text);
@@ -21,7 +21,6 @@ fn say_step(s: Stepped) {
     let answer = s.answer;
     match answer {
         Answer::Done => say(b"TAKEN\n"),
-        Answer::Value(_) => say(b"VALUE\n"),
         Answer::Refused(number) => say_refused(number as u64),
     }
 }

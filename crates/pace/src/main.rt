@@ -1,11 +1,12 @@
 // The pace: feeds one block of 4,096 samples again and again, as often as the argument says, and prints the registers once.
 ghost use Prim.Native.Nat.{_≤_};
+use aberzhan::Looked;
 use aberzhan::Module;
-use aberzhan::Stepped;
 use address::byte_addr;
 use address::word_addr;
 use libc::STDOUT_FILENO;
-use port::answers::Answer;
+use port::holds::Reading;
+use steps::Answer;
 
 // VRMS and the six figures, and both counts, by their byte addresses.
 const REGISTERS: [i64; 9] = [0x81, 0xBA, 0xD2, 0xE1, 0xEA, 0x12F, 0x1A1, 0x1AD, 0x1B6];
@@ -111,12 +112,11 @@ fn print_value(x: i64) {
 }
 
 // A register's value; 0 if the read is refused.
-fn told(s: Stepped) -> i64 {
+fn told(s: Looked) -> i64 {
     let answer = s.answer;
     match answer {
-        Answer::Value(x) => x,
-        Answer::Done => 0,
-        Answer::Refused(_) => 0,
+        Reading::Value(x) => x,
+        Reading::Refused(_) => 0,
     }
 }
 

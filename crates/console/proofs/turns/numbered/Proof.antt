@@ -79,8 +79,8 @@ byte-addr-requires c κs = search needs
 read-requires : tie.Need-read-requires
 read-requires c κs = search needs
 
-stepped-requires-4 : tie.Need-stepped-requires-4
-stepped-requires-4 c κs = search needs
+looked-requires : tie.Need-looked-requires
+looked-requires c κs = search needs
 
 enum-told-7 : tie.Need-enum-told-7
 enum-told-7 c = search needs
@@ -123,7 +123,7 @@ returns-5 c =
 returns-6 : tie.Need-returns-6
 returns-6 c =
     let x = c .before .before .before .before .before .before .before .args .t3 in
-    simp (c .before .before .before .before .before .enum-told6 .given .1, c .stepped4 .ensures, c .before .read .ensures, c .before .before .byte-addr .ensures, as-read x 0 (c .before .before .before .before .read-arg .given), as-read x 1 (c .before .before .before .byte-addr-arg .given))
+    simp (c .before .before .before .before .before .enum-told6 .given .1, c .looked .ensures, c .before .read .ensures, c .before .before .byte-addr .ensures, as-read x 0 (c .before .before .before .before .read-arg .given), as-read x 1 (c .before .before .before .byte-addr-arg .given))
 
 returns-7 : tie.Need-returns-7
 returns-7 c = simp (c .before .enum-told7 .given .1, c .unread .ensures)
@@ -163,7 +163,7 @@ numbered-spec =
     array-copy-out-byte-addr
     byte-addr-requires
     read-requires
-    stepped-requires-4
+    looked-requires
     enum-told-7
     unread-requires
     enum-told-8

@@ -8,9 +8,6 @@ use Rattle.console.proofs.turns.said_of_hold.Tie as tie
 enum-told : tie.Need-enum-told
 enum-told c = search needs
 
-enum-told-2 : tie.Need-enum-told-2
-enum-told-2 c = search needs
-
 enum-known-a : tie.Need-enum-known-a
 enum-known-a c = search needs
 
@@ -18,11 +15,7 @@ returns : tie.Need-returns
 returns c = search needs
 
 returns-2 : tie.Need-returns-2
-returns-2 c = search needs
-
-returns-3 : tie.Need-returns-3
-returns-3 c = sym (ap heldSaid (c .before .a .given .1))
+returns-2 c = sym (ap heldSaid (c .before .a .given .1))
 
 pub said-of-hold-spec : {M : Type 1} → statement M
-said-of-hold-spec =
-    tie.close (tie.spec enum-told enum-told-2 enum-known-a returns returns-2 returns-3)
+said-of-hold-spec = tie.close (tie.spec enum-told enum-known-a returns returns-2)
