@@ -12,6 +12,11 @@ use super::Sums;
 use super::correct;
 use super::mix;
 use card::Card;
+use card::names::IGAIN;
+use card::names::IOFFS;
+use card::names::PHASE;
+use card::names::VGAIN;
+use card::names::VOFFS;
 
 // The five values that a sample needs of its card.
 pub struct Probe {
@@ -28,11 +33,11 @@ fn probe_of(c: Card) -> Probe
 {
     let f = c.fields;
     Probe {
-        voffs: f[0],
-        ioffs: f[1],
-        vgain: f[2],
-        igain: f[3],
-        phase: f[4] as u16,
+        voffs: f[VOFFS],
+        ioffs: f[IOFFS],
+        vgain: f[VGAIN],
+        igain: f[IGAIN],
+        phase: f[PHASE] as u16,
     }
 }
 
@@ -120,12 +125,12 @@ fn run(s0: Sums, c: Card, v: &[i32], i: &[i32]) -> Sums
     run_with(s0, p, first, v, i)
 }
 
-// Whether a card's PHASE is in its range.
+// Whether a card's PHASE, its field 5, is in its range.
 pub fn phase_in_range(c: Card) -> bool
     ensures { λ r. ⌜ r ≡ phaseInRange c ⌝ }
 {
     let f = c.fields;
-    card::field_in_range(5, f[4] as i64)
+    card::field_in_range(5, f[PHASE] as i64)
 }
 
 impl Sums {
