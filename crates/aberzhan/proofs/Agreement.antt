@@ -24,13 +24,12 @@ use Rattle.meter.proofs.Sound.{Sound as SoundMeter}
 use Rattle.meter.proofs.Agreement.{block-feeds}
 use Rattle.port.specs.declared.desks.Desk.{Desk}
 use Rattle.port.specs.declared.holds.Held.{Held}
-use Rattle.port.specs.Desks.{Edit, openWith, writeField, shutDesk, opening, writing, finished, discarded, dropping}
+use Rattle.port.specs.Desks.{openWith, writeField, shutDesk, opening, writing, finished, discarded, dropping}
 use Rattle.port.specs.Holds.{register, copied}
 use Rattle.port.specs.Reading.{look}
 use Rattle.port.specs.declared.holds.Reading.the-variants.{Refused as NotRead}
 use Rattle.port.specs.Answers.{looked}
 use Rattle.aberzhan.specs.declared.Module.{Module}
-use Rattle.aberzhan.specs.declared.Stepped.{Stepped}
 use Rattle.aberzhan.specs.Ports.{aberzhan}
 use Rattle.aberzhan.specs.Module.{deskOf, heldOf, withMeter, portAt, atPort as atPortOf, refusal, notHeld, atDesk, committing, holding, openOf, writeOf, commitOf, dropOf, holdOf, readOf, blockOf}
 use Rattle.aberzhan.specs.Calls.{stateOf, moduleOf, Call, callOpen, callWrite, callCommit, callDrop, callHold, callRead, callBlock, stepOf, numberOf, callOf, readReply, fromStep, fromHold, returned}

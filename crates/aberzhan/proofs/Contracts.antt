@@ -1,6 +1,6 @@
 -- What the generated contracts of the module's methods allow, call by call; and that it is what `returned`, for the start `startOf`, says of the call.
 use mathlib.Core.Path.{_≡_, refl, ap, _∙_}
-use mathlib.Core.List.{List, [], _∷_}
+use mathlib.Core.List.{List}
 use lib.IntN.{ℤ}
 use contract.Lifetimes.{Lfts}
 use borrow.Fn.Kinds.{Dens}

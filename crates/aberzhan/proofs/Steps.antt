@@ -7,7 +7,6 @@ use mathlib.Core.Option.{Option}
 use lib.IntN.{ℤ}
 use Rattle.steps.specs.Answers.{OrRefusal, refused, accepted}
 use Rattle.steps.specs.Port.{Port, port0, port1}
-use Rattle.steps.specs.declared.Answer.the-variants.{Refused}
 use Rattle.card.specs.declared.Card.{Card}
 use Rattle.address.specs.declared.ByteAddr.{ByteAddr}
 use Rattle.port.specs.declared.desks.Desk.{Desk}

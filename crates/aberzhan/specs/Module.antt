@@ -6,7 +6,6 @@ use lib.IntN.{ℤ, pos, negsuc}
 use Rattle.steps.specs.Answers.{OrRefusal, refused, accepted}
 use Rattle.steps.specs.Port.{Port, port0, port1, portOf}
 use Rattle.steps.specs.declared.Answer.the-variants.{Done, Refused}
-use Rattle.serial.specs.declared.Serial.{Serial}
 use Rattle.serial.specs.Serials.{noSerial}
 use Rattle.card.specs.declared.Card.{Card}
 use Rattle.address.specs.declared.WordAddr.{WordAddr}

@@ -6,14 +6,12 @@ use lib.IntN.{ℤ, natAbs}
 use Rattle.steps.specs.declared.Answer.the-variants.{Done, Refused}
 use Rattle.address.specs.declared.WordAddr.{WordAddr}
 use Rattle.address.specs.Slots.{everySlot}
-use Rattle.interval.specs.declared.close.Settings.{Settings}
 use Rattle.meter.specs.Starting.{numbersOk, freshOf, notStarted, startOf as meterStart}
 use Rattle.meter.specs.declared.Stepped.{Stepped as Metered}
 use Rattle.aberzhan.specs.declared.Stepped.{Stepped}
 use Rattle.aberzhan.specs.Module.{freshModule, startOf}
 use Rattle.aberzhan.proofs.Contracts.{start-is}
-use Rattle.demands.specs.Program.{Program}
-use Rattle.demands.specs.Beginning.{Fresh, lowestSettings, Begins, EveryStart}
+use Rattle.demands.specs.Beginning.{Fresh, lowestSettings, EveryStart}
 
 module _ (n b : ℤ) (track : List WordAddr) where
   -- `Begins` of a start's result r, with the settings asked for or the lowest

@@ -7,12 +7,11 @@ use mathlib.Core.Option.{none}
 use lib.IntN.{ℤ}
 use Rattle.steps.specs.Answers.{accepted}
 use Rattle.steps.specs.Port.{Port, port0, port1, on}
-use Rattle.steps.specs.Module.{Step, State, fresh}
+use Rattle.steps.specs.Module.{State, fresh}
 use Rattle.steps.specs.Run.{run}
 use Rattle.steps.specs.Gauge.{new}
 use Rattle.steps.specs.OneCard.{Interval, tagged, intervals, outset, closedAll}
 use Rattle.steps.specs.Calls.{Reply, refuses, done}
-use Rattle.steps.specs.declared.Answer.{Answer}
 use Rattle.steps.specs.declared.Answer.the-variants.{Done, Refused}
 use Rattle.steps.proofs.Sound.{SoundState, always-sound}
 use Rattle.steps.proofs.Calls.{calls-demand3}
@@ -26,13 +25,13 @@ use Rattle.meter.proofs.Starts.{fresh-sound}
 use Rattle.aberzhan.specs.declared.Module.{Module}
 use Rattle.aberzhan.specs.declared.Stepped.{Stepped}
 use Rattle.aberzhan.specs.Ports.{ports, aberzhan}
-use Rattle.aberzhan.specs.Module.{freshModule, startOf}
-use Rattle.aberzhan.specs.Calls.{stateOf, moduleOf, Call, callBlock, stepOf, replyOf}
+use Rattle.aberzhan.specs.Module.{freshModule}
+use Rattle.aberzhan.specs.Calls.{stateOf, moduleOf, callBlock, replyOf}
 use Rattle.aberzhan.proofs.Soundness.{sounds, shut-phased, from-start}
 use Rattle.aberzhan.proofs.Contracts.{Allows, methods, start-is, allowed-is}
 use Rattle.aberzhan.proofs.Agreement.{does, eighteen}
 use Rattle.demands.specs.Program.{Program, first, steps, ran, closes}
-use Rattle.demands.specs.Demand3.{ProgramDemand3, ModuleDemand3}
+use Rattle.demands.specs.Demand3.{ModuleDemand3}
 
 -- ---- what a start returns is a fresh module, taken or refused
 pub of-start : (P : Module → Type 0) → ((n b : ℕ) (track : List WordAddr) → 1 ≤ n → n ≤ 4096 → P (freshModule (freshOf n b track))) → (p : Program) → P (first p)

@@ -1,7 +1,7 @@
 -- The energy rule over the whole history of closes: what an interval's close keeps, every sequence of steps keeps.
 use Prim.Native.Nat.{ℕ, _≤_}
 use mathlib.Core.Path.{_≡_, refl, sym, ap, subst, _∙_}
-use mathlib.Core.List.{List, [], _∷_, _++_, foldl, foldl-append}
+use mathlib.Core.List.{List, [], _∷_, _++_, foldl-append}
 use Rattle.steps.specs.Module.{State}
 use Rattle.steps.specs.OneCard.{Interval, gathered, closedAll}
 use Rattle.steps.proofs.Work.{LastingWork, always-work}
@@ -20,7 +20,7 @@ use Rattle.aberzhan.specs.declared.Module.{Module}
 use Rattle.aberzhan.specs.Ports.{ports, aberzhan}
 use Rattle.aberzhan.specs.Module.{freshModule}
 use Rattle.aberzhan.specs.Calls.{stateOf}
-use Rattle.demands.specs.Program.{Program, first, settings, steps, closes}
+use Rattle.demands.specs.Program.{first, settings, steps, closes}
 use Rattle.demands.specs.EnergyHistory.{plusWith, minusWith, Counted, EachCounted, EnergyHistory}
 use Rattle.demands.proofs.Demand3.{of-start, module-demand3, closedFrom, one-card-each}
 use Rattle.demands.proofs.Cuts.{sums-only}

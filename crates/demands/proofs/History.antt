@@ -13,7 +13,7 @@ use Rattle.interval.specs.History.{ClosedInTurn}
 use Rattle.interval.proofs.Rms.{interval-rms}
 use Rattle.interval.proofs.Histories.{whole-next, closes-followed}
 use Rattle.meter.specs.Core.{core}
-use Rattle.demands.specs.Program.{Program, settings, closes}
+use Rattle.demands.specs.Program.{settings, closes}
 use Rattle.demands.specs.Intervals.{intervalsOf, rawBefore, wholes}
 use Rattle.demands.specs.History.{EachRms, EveryClose}
 use Rattle.demands.proofs.Wholes.{whole-intervals}

@@ -1,6 +1,6 @@
 -- Each closed interval is worked from its card, its samples and the raw current before its first, as document 01 has it for a whole interval.
 use Prim.Native.Nat.{ℕ, _≤_}
-use mathlib.Core.Path.{_≡_, refl, sym, ap, subst, _∙_}
+use mathlib.Core.Path.{_≡_, refl, sym, ap, _∙_}
 use mathlib.Core.Bool.{Bool, true, false, cond, not}
 use mathlib.Core.List.{List, [], _∷_, map}
 use mathlib.Core.Option.{Option, none, some}
@@ -29,7 +29,7 @@ use Rattle.aberzhan.specs.Ports.{ports, aberzhan}
 use Rattle.aberzhan.specs.Module.{freshModule}
 use Rattle.aberzhan.specs.Calls.{stateOf}
 use Rattle.demands.specs.Program.{Program, first, settings, steps, ran}
-use Rattle.demands.specs.Intervals.{samplesWithCards, cutBy, intervalsOf, EachHas, rawBefore, wholes, ProgramIntervals, WholeIntervals}
+use Rattle.demands.specs.Intervals.{samplesWithCards, intervalsOf, EachHas, rawBefore, wholes, WholeIntervals}
 use Rattle.demands.proofs.Demand3.{of-start, module-demand3, closedFrom, one-card-each}
 use Rattle.demands.proofs.Cuts.{sums-only, cut-is, each-has}
 

@@ -1,7 +1,6 @@
 -- What a start returns: the settings asked for, or 7 and the lowest; and in either case a fresh module.
-use Prim.Native.Nat.{ℕ}
 use mathlib.Core.Path.{_≡_}
-use mathlib.Core.Bool.{true, false, cond, _&&_}
+use mathlib.Core.Bool.{false, cond, _&&_}
 use lib.IntN.{natAbs}
 use lib.ListN.{replicate}
 use Rattle.steps.specs.declared.Answer.the-variants.{Done, Refused}

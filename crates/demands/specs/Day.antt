@@ -1,5 +1,6 @@
 -- A day at a site, worked through with the module itself: a program of calls by both ports and the sample feed, its shorter sequence, and what
--- comes of both: a card dropped, one replaced before any sample, a field written twice, a card still open in the evening. `proofs/Day.antt` computes it. N is 2, the bucket 100; slot 1 tracks VA_RMS, the others are off.
+-- comes of both: a card dropped, one replaced before any sample, a field written twice, a card still open in the evening. `proofs/Day.antt`
+-- computes it. N is 2, the bucket 100; slot 1 tracks VA_RMS, the others are off.
 use Prim.Native.Nat.{ℕ, suc}
 use mathlib.Core.Path.{_≡_}
 use mathlib.Core.Bool.{true, false}

@@ -24,7 +24,8 @@ pub record ProgramDemand3 (p : Program) : Type 0 where
   pub begins : stateOf (first p) ≡ fresh aberzhan (new core noCard (first p .meter .work))
   pub calls : CallsDemand3 aberzhan methods (first p) (p .calls) (p .log)
   -- and leaves the very same struct
-  pub same-struct : (short : Log aberzhan Module) → Ran aberzhan methods (shorterCalls aberzhan methods (first p) (p .calls)) (first p) short → short .end ≡ p .log .end
+  pub same-struct : (short : Log aberzhan Module) → Ran aberzhan methods (shorterCalls aberzhan methods (first p) (p .calls)) (first p) short →
+      short .end ≡ p .log .end
   -- the shorter sequence is what the demand's words say; it closes the same intervals, counts the same energy and has the same card in
   -- force; each closed interval is worked with one card, the last one committed before its first sample; no sample is lost
   pub promise : Promise core ports noCard (first p .meter .work) (steps p)

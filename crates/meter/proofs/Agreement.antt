@@ -1,27 +1,23 @@
 -- The code's block and the block of crate `steps` agree: a sound state passes the test, samples and a waiting card keep it sound, and for a sound
 -- state 18 is given exactly when no card is in force and none waits.
-use Prim.Native.Nat.{ℕ, zero, suc, _+_, _≤_, _<_}
-use mathlib.Core.Path.{_≡_, refl, sym, ap, ap₂, subst, _∙_}
-use mathlib.Core.Bool.{Bool, true, false, cond, _&&_, _||_}
+use Prim.Native.Nat.{ℕ}
+use mathlib.Core.Path.{_≡_, sym, ap, subst}
+use mathlib.Core.Bool.{Bool, cond, _&&_, _||_}
 use mathlib.Core.List.{List, [], _∷_}
 use mathlib.Core.Option.{Option, none, some}
 use native.Mathlib.Omega.{arith}
-use lib.Dec.{T}
-use lib.IntN.{ℤ, pos, negsuc, natAbs}
-use lib.Signed.{leZ, nonNeg}
-use borrow.Author.Tests.{le-leb, lt-ltb}
+use lib.IntN.{ℤ}
 use Rattle.steps.specs.Answers.{OrRefusal, refused, accepted}
 use Rattle.steps.specs.Gauge.{Meter, latest, feeds, samples, waitsFor}
 use Rattle.card.specs.declared.Card.{Card}
 use Rattle.interval.specs.declared.close.Closed.{Closed}
-use Rattle.sample.specs.Fields.{field}
 use Rattle.sample.specs.Sums.{Sample}
 use Rattle.meter.specs.declared.Meter.{Meter as Kept}
 use Rattle.meter.proofs.Sound.{Sound, sound-yes}
-use Rattle.sample.specs.Inside.{Room, Phased}
+use Rattle.sample.specs.Inside.{Phased}
 use Rattle.meter.specs.Core.{core, meterOf, keptOf, samplesOf}
 use Rattle.meter.specs.Inside.{fedOf}
-use Rattle.meter.specs.Blocks.{soundOf, nextCard, carded, answered, blockOf}
+use Rattle.meter.specs.Blocks.{nextCard, carded, answered, blockOf}
 use Rattle.meter.proofs.Stretches.{fed-is, fed-append, fed-none}
 use Rattle.meter.proofs.Keeping.{stretch-sound}
 

@@ -1,26 +1,18 @@
 -- A stretch keeps a sound state sound.
-use Prim.Native.Nat.{ℕ, zero, suc, _+_, _*_, _-_, _/_, _%_, _^_, _≤_, _<_}
-use mathlib.Core.Path.{_≡_, refl, sym, ap, subst, _∙_}
-use mathlib.Core.Bool.{Bool, true, false, cond, not}
-use mathlib.Core.List.{List, [], _∷_, _++_}
-use native.Mathlib.Nat.{add-zero, mod-lt}
+use Prim.Native.Nat.{ℕ, _+_, _-_, _≤_, _<_}
+use mathlib.Core.Path.{_≡_, refl, sym, subst}
+use mathlib.Core.Bool.{Bool, true, false, cond}
+use mathlib.Core.List.{List}
 use native.Mathlib.Omega.{arith}
 use lib.Dec.{eqb}
 use lib.ListN.{length}
-use lib.IntN.{ℤ, pos, natAbs}
-use lib.Signed.{mag, ltZ}
-use borrow.Author.Tests.{eqb-true, eqb-false}
-use Rattle.steps.specs.Gauge.{Meter, waitOver, begun}
-use Rattle.sample.proofs.Corrections.{corrected-in, mixed-in}
-use Rattle.card.specs.declared.Card.{Card}
-use Rattle.sample.specs.declared.Sums.{Sums}
-use Rattle.sample.specs.Fields.{field}
-use Rattle.sample.specs.Sample.{voltage, current, phased}
-use Rattle.sample.specs.Sums.{Sample, added, addedAll, previous, emptied}
+use borrow.Author.Tests.{eqb-false}
+use Rattle.steps.specs.Gauge.{waitOver}
+use Rattle.sample.specs.Sums.{Sample, addedAll}
 use Rattle.meter.specs.declared.Work.{Work}
 use Rattle.meter.specs.declared.Meter.{Meter as Kept}
 use Rattle.meter.proofs.Sound.{Sound}
-use Rattle.sample.specs.Inside.{Room, Spare, Phased}
+use Rattle.sample.specs.Inside.{Room, Phased}
 use Rattle.meter.specs.Core.{core, meterOf, keptOf, withSums, closedWork}
 use Rattle.meter.specs.Inside.{begunOf, endOf, stretchOf}
 use Rattle.sample.proofs.Rooms.{all-room, empty-room}

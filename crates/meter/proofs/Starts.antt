@@ -1,23 +1,17 @@
 -- The ways through a start, and that a fresh meter is sound.
-use Prim.Native.Nat.{ℕ, _+_, _≤_, _<_, _^_}
-use mathlib.Core.Path.{_≡_, refl, sym, ap, ap₂, _∙_}
+use Prim.Native.Nat.{ℕ, _≤_}
+use mathlib.Core.Path.{_≡_, refl, sym, ap₂}
 use mathlib.Core.Bool.{Bool, true, false, cond, _&&_, true≢false}
-use mathlib.Core.List.{List, [], _∷_}
-use native.Mathlib.Numerals.{add-one}
-use native.Mathlib.Omega.{arith}
+use mathlib.Core.List.{List}
 use lib.Dec.{T, lit≤}
 use lib.IntN.{ℤ, pos, negsuc, natAbs}
 use lib.Signed.{leZ, nonNeg}
 use borrow.Author.Tests.{leb-true}
-use lib.ListN.{length, getD, drop, drop-of-length-le, replicate}
-use lib.Seq.{drop-cons}
 use Rattle.address.specs.declared.WordAddr.{WordAddr}
 use Rattle.address.specs.Slots.{everySlot}
 use Rattle.meter.proofs.Sound.{Sound}
-use Rattle.sample.specs.Inside.{Room, Phased}
-use Rattle.sample.specs.Sums.{noSums}
+use Rattle.sample.specs.Inside.{Phased}
 use Rattle.meter.specs.Starting.{numbersOk, noCard, freshOf, startOf, notStarted}
-use Rattle.meter.specs.declared.Stepped.{Stepped}
 use Rattle.steps.specs.declared.Answer.the-variants.{Done}
 
 -- a fresh module is sound

@@ -8,10 +8,8 @@ use native.Mathlib.Omega.{arith}
 use lib.Dec.{eqb}
 use lib.ListN.{length, take, drop, take-append-drop, length-take, length-drop, drop-of-length-le}
 use lib.Seq.{drop-drop}
-use lib.IntN.{ℤ}
 use borrow.Author.Tests.{eq-eqb, ne-eqb}
 use Rattle.steps.specs.Gauge.{Meter, workedOn, waitOver, begun, closing, joins, sample, samples}
-use Rattle.sample.specs.declared.Sums.{Sums}
 use Rattle.interval.specs.declared.close.Closed.{Closed}
 use Rattle.meter.specs.declared.Work.{Work}
 use Rattle.meter.specs.declared.Meter.{Meter as Kept}

@@ -1,33 +1,22 @@
 -- The ways through a block: which test leads to which answer.
-use Prim.Native.Nat.{ℕ, zero, suc, _+_, _/_, _≤_, _<_, _^_}
+use Prim.Native.Nat.{ℕ}
 use mathlib.Core.Path.{_≡_, refl, sym, ap, ap₂, _∙_}
 use mathlib.Core.Bool.{Bool, true, false, cond, _&&_, _||_, true≢false}
-use mathlib.Core.List.{List, [], _∷_}
+use mathlib.Core.List.{List}
 use mathlib.Core.Option.{Option, none, some}
-use native.Mathlib.Numerals.{add-one}
-use native.Mathlib.Omega.{arith}
-use lib.Dec.{T, eqb, leb, ltb, le→leb}
-use lib.IntN.{ℤ, pos, negsuc, natAbs}
-use lib.Signed.{leZ, nonNeg}
-use lib.ListN.{length, getD, drop, drop-of-length-le}
-use lib.Seq.{drop-cons}
-use borrow.Author.Tests.{leb-true, ltb-true}
+use lib.Dec.{eqb, leb}
+use lib.IntN.{ℤ}
+use lib.ListN.{length}
 use Rattle.steps.specs.Answers.{OrRefusal, refused, accepted}
-use Rattle.steps.specs.Gauge.{Meter, latest, feeds, samples}
+use Rattle.steps.specs.Gauge.{latest, feeds}
 use Rattle.card.specs.declared.Card.{Card}
-use Rattle.interval.specs.declared.close.Closed.{Closed}
-use Rattle.sample.specs.Fields.{field}
 use Rattle.meter.specs.declared.Meter.{Meter as Kept}
-use Rattle.meter.specs.declared.Stepped.{Stepped}
 use Rattle.steps.specs.declared.Answer.the-variants.{Done, Refused}
 use Rattle.sample.specs.Sums.{Sample}
 use Rattle.sample.specs.Sums.{samplesIn}
-use Rattle.meter.proofs.Sound.{Sound}
-use Rattle.sample.specs.Inside.{Room, Phased}
-use Rattle.number.specs.Range.{in24}
 use Rattle.sample.specs.Sample.{every24}
 use Rattle.sample.proofs.Tests.{both-of}
-use Rattle.meter.specs.Core.{core, meterOf, keptOf, samplesOf}
+use Rattle.meter.specs.Core.{core, meterOf, samplesOf}
 use Rattle.meter.specs.Inside.{fedOf}
 use Rattle.meter.specs.Blocks.{soundOf, nextCard, carded, answered, blockOf}
 

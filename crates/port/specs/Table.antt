@@ -60,6 +60,7 @@ module _ (va-rms ia-rms ia-peak watt-a va-a pfa ia-crest : ℤ) (pos-cnt neg-cnt
   pub record TableRead : Type 0 where
     pub all-on : readAll (replicate 6 (record { 0 = 0x2B })) (plainTable ++ slotTable) ≡ toldAll (plainTable ++ slotTable)
     pub all-off : readAll (replicate 6 off) (plainTable ++ slotTable) ≡ toldAll plainTable ++ replicate 12 (refused 17)
-    pub third-off : readAll (record { 0 = 0x2B } ∷ record { 0 = 0x2B } ∷ off ∷ record { 0 = 0x2B } ∷ record { 0 = 0x2B } ∷ record { 0 = 0x2B } ∷ []) ((0x156, min2) ∷ (0x159, min3) ∷ (0x16B, max3) ∷ (0x16E, max4) ∷ [])
+    pub third-off : readAll (replicate 2 (record { 0 = 0x2B }) ++ (off ∷ replicate 3 (record { 0 = 0x2B })))
+        ((0x156, min2) ∷ (0x159, min3) ∷ (0x16B, max3) ∷ (0x16E, max4) ∷ [])
         ≡ accepted min2 ∷ refused 17 ∷ refused 17 ∷ accepted max4 ∷ []
     pub no-register : readAll (replicate 6 (record { 0 = 0x2B })) ((0x154, pos 0) ∷ (0x2B, pos 0) ∷ (0, pos 0) ∷ []) ≡ replicate 3 (refused 16)

@@ -1,5 +1,5 @@
 -- A corrected sample is in the 24-bit range, and so is a mix of two such.
-use Prim.Native.Nat.{ℕ, suc, _+_, _*_, _-_, _/_, _<_, _≤_}
+use Prim.Native.Nat.{ℕ, suc, _+_, _*_, _-_, _<_, _≤_}
 use mathlib.Core.Path.{_≡_}
 use native.Mathlib.Nat.{mul-le-mul-left, le-refl}
 use native.Mathlib.Omega.{arith}

@@ -1,14 +1,13 @@
 -- The sums of an interval have room: with one sample more they are those of one sample more, and never pass 64 bits.
-use Prim.Native.Nat.{ℕ, zero, suc, _+_, _*_, _-_, _/_, _^_, _≤_, _<_, max}
-use mathlib.Core.Path.{_≡_, refl, sym, ap, _∙_}
-use mathlib.Core.Bool.{Bool, true, false, cond}
+use Prim.Native.Nat.{ℕ, suc, _+_, _*_, _-_, _^_, _≤_, _<_}
+use mathlib.Core.Path.{_≡_}
 use native.Mathlib.Nat.{mul-le-mul}
 use native.Mathlib.Omega.{arith}
-use lib.IntN.{ℤ, pos, negsuc, natAbs, _+ℤ_, _*ℤ_}
+use lib.IntN.{ℤ, natAbs, _+ℤ_, _*ℤ_}
 use lib.Signed.{mag, natAbs-le}
-use mir.Syntax.{w32, w64}
+use mir.Syntax.{w64}
 use mir.Val.{SFits}
-use Rattle.number.proofs.Signed.{up, dn, add-is, abs-is}
+use Rattle.number.proofs.Signed.{add-is, abs-is}
 use Rattle.number.proofs.Fits.{within, Size, size-mul}
 use Rattle.number.proofs.Ranges.{size24}
 use Rattle.sample.specs.declared.Flow.{Flow}

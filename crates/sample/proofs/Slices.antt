@@ -1,13 +1,13 @@
 -- The samples of two slices: one after another, and a part of them.
 use Prim.Native.Nat.{ℕ, zero, suc, _+_, _-_, _≤_, _<_}
-use mathlib.Core.Path.{_≡_, refl, sym, ap, ap₂, _∙_}
-use mathlib.Core.List.{List, [], _∷_, _++_}
+use mathlib.Core.Path.{_≡_, refl, ap, _∙_}
+use mathlib.Core.List.{List, [], _∷_}
 use native.Mathlib.Nat.{le-of-suc-le-suc, not-suc-le-zero, suc-ne-zero}
 use native.Mathlib.Numerals.{add-one}
 use native.Mathlib.Omega.{arith}
 use lib.ListN.{length, getD, take, drop, drop-of-length-le}
 use lib.IntN.{ℤ, pos}
-use Rattle.sample.specs.Sample.{corrected, mixed, voltage, current, phased}
+use Rattle.sample.specs.Sample.{voltage, current, phased}
 use Rattle.card.specs.declared.Card.{Card}
 use Rattle.sample.specs.declared.Sums.{Sums}
 use Rattle.sample.specs.Sums.{Sample, summed, added, addedAll, previous}

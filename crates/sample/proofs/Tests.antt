@@ -1,20 +1,20 @@
 -- What the tests of sums, PHASE and room say, and that whatever is so passes them.
-use Prim.Native.Nat.{ℕ, _+_, _-_, _*_, _^_, _≤_}
-use mathlib.Core.Path.{_≡_, refl, sym, ap, ap₂, _∙_}
+use Prim.Native.Nat.{ℕ, _+_, _-_, _≤_}
+use mathlib.Core.Path.{_≡_, refl, sym, ap, ap₂}
 use mathlib.Core.Bool.{Bool, true, false, cond, _&&_, true≢false}
 use mathlib.Core.List.{List}
 use native.Mathlib.Omega.{arith}
 use lib.Dec.{T, eqb, leb}
 use lib.IntN.{ℤ, pos, negsuc, natAbs}
 use lib.ListN.{length}
-use lib.Signed.{leZ, nonNeg}
+use lib.Signed.{nonNeg}
 use borrow.Author.Tests.{leb-true, leb-false, le-leb, lt-leb, eq-eqb}
 use Rattle.card.specs.declared.Card.{Card}
 use Rattle.card.specs.Fields.{lows, highs, fitsField, isField, fieldInRange}
 use Rattle.sample.specs.declared.Sums.{Sums}
 use Rattle.sample.specs.Fields.{field}
 use Rattle.sample.specs.Sums.{samplesIn, addedAll, ofAtMost, phaseInRange, hasRoom, withSamples}
-use Rattle.sample.specs.Inside.{Room, Spare, Phased}
+use Rattle.sample.specs.Inside.{Room, Phased}
 
 pub both-of : (s t : Bool) → s && t ≡ true → (s ≡ true) × (t ≡ true)
 both-of true t e = (refl, e)

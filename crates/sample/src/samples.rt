@@ -1,7 +1,7 @@
 // The samples' loop, on the sums alone: what the card does to a sample is taken out of it once.
 ghost use mathlib.Core.Path.{_≡_};
 ghost use Prim.Native.Nat.{_≤_, _<_};
-ghost use lib.IntN.{ℤ, pos};
+ghost use lib.IntN.{pos};
 ghost use lib.Signed.{mag};
 ghost use lib.ListN.{length, getD};
 ghost use Rattle.sample.specs.Sample.{corrected, mixed};

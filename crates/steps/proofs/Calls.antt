@@ -10,7 +10,7 @@ use Rattle.steps.specs.Parts.{Parts}
 use Rattle.steps.specs.Module.{Op, edit, commit, dropCard, hold, read, Step, atPort, block, State, withHeld, fresh, Report, silent, commits, tells, closes, Outcome, step, didEdit, didCommit, didDrop, didBlock, Done}
 use Rattle.steps.specs.Run.{Run, withReport, follow, run}
 use Rattle.steps.specs.Shorter.{stepsOf, shorter}
-use Rattle.steps.specs.Calls.{Reply, reply, after, Methods, Log, noted, Ran, ended, called, asked, shorterCalls, CallsDemand3}
+use Rattle.steps.specs.Calls.{Reply, reply, after, Methods, Log, noted, Ran, ended, called, shorterCalls, CallsDemand3}
 use Rattle.steps.proofs.Demand3.{demand3}
 use Rattle.steps.proofs.Sound.{Sound, SoundState, step-sound}
 

@@ -69,7 +69,8 @@ module _ (P : Parts) where
 
     pub data Ran : List Call → Kept → Log Kept → Type 0 where
       ended : {m : Kept} → Ran [] m (noneCalled Kept m)
-      called : {k : Call} {ks : List Call} {m : Kept} {o : Reply × Kept} {l : Log Kept} → Allows k m o → Ran ks (o .1) l → Ran (k ∷ ks) m (noted Kept (stepOf k) (o .0) l)
+      called : {k : Call} {ks : List Call} {m : Kept} {o : Reply × Kept} {l : Log Kept} → Allows k m o → Ran ks (o .1) l →
+          Ran (k ∷ ks) m (noted Kept (stepOf k) (o .0) l)
 
     module _ (z : Kept) (ks : List Call) where
       -- the steps that the calls ask for, and what comes of them, with the list of all closed intervals

@@ -34,7 +34,8 @@ module _ (P : Parts) where
   withReport silent r = r
   withReport (commits c) r = withEvent (committed c) [] r
   withReport (closes b c) r = withEvent (fed b) c r
-  withReport (tells p op v) r = record { refusals = r .refusals; history = r .history; closed = r .closed; heard = putOn p ((op, v) ∷ on (r .heard) p) (r .heard); end = r .end }
+  withReport (tells p op v) r =
+      record { refusals = r .refusals; history = r .history; closed = r .closed; heard = putOn p ((op, v) ∷ on (r .heard) p) (r .heard); end = r .end }
 
   -- a refused step leaves the state as it came
   abbrev pub follow : Outcome P → State P → (State P → Run) → Run

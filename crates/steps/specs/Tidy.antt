@@ -16,7 +16,8 @@ module _ (P : Parts) where
   pub data Accepted : List (Step P) → State P → List (Step P) → Type 0 where
     ends : {s : State P} → Accepted [] s []
     strikes : {x : Step P} {xs ys : List (Step P)} {s : State P} {n : ℕ} → step P x s ≡ refused n → Accepted xs s ys → Accepted (x ∷ xs) s ys
-    stays : {x : Step P} {xs ys : List (Step P)} {s : State P} {r : Report P × State P} → step P x s ≡ accepted r → Accepted xs (r .1) ys → Accepted (x ∷ xs) s (x ∷ ys)
+    stays : {x : Step P} {xs ys : List (Step P)} {s : State P} {r : Report P × State P} → step P x s ≡ accepted r → Accepted xs (r .1) ys →
+        Accepted (x ∷ xs) s (x ∷ ys)
 
   -- ---- the second and the third
 

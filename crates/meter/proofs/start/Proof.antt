@@ -3,7 +3,6 @@ use native.Mathlib.Omega.{arith}
 use mathlib.Core.Path.{_≡_, sym, _∙_}
 use mathlib.Core.Bool.{true, false}
 use mir.Facts.{toZ-ofZ}
-use mir.Syntax.{w64}
 use Rattle.meter.specs.Starting.{numbersOk}
 use Rattle.meter.proofs.Starts.{start-done, start-slots, start-not, numbers-in}
 use borrow.Author.Needs.{needs}

@@ -1,6 +1,5 @@
 -- `fed` feeds the block so often.
 use borrow.Author.Needs.{needs}
-use native.Mathlib.Omega.{arith}
 use Prim.Native.Nat.{_-_, _≤_}
 use Rattle.pace.proofs.fed.Statement.{statement}
 use Rattle.pace.proofs.fed.Tie as tie

@@ -1,6 +1,5 @@
 -- `print_registers` prints nine registers.
 use borrow.Author.Needs.{needs}
-use native.Mathlib.Omega.{arith}
 use Prim.Native.Nat.{_-_, _≤_}
 use Rattle.pace.proofs.print_registers.Statement.{statement}
 use Rattle.pace.proofs.print_registers.Tie as tie

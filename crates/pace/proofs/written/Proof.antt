@@ -1,6 +1,5 @@
 -- `written` writes the eight fields.
 use borrow.Author.Needs.{needs}
-use native.Mathlib.Omega.{arith}
 use Prim.Native.Nat.{_-_, _≤_}
 use Rattle.pace.proofs.written.Statement.{statement}
 use Rattle.pace.proofs.written.Tie as tie

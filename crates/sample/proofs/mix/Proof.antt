@@ -1,5 +1,5 @@
 -- `mix` meets its contract.
-use mathlib.Core.Path.{_∙_, ap}
+use mathlib.Core.Path.{_∙_}
 use mir.Syntax.{w64}
 use Rattle.number.proofs.Fits.{answer}
 use Rattle.sample.specs.Sample.{mixed}

@@ -1,5 +1,4 @@
 -- `commit_of` meets its contract.
-use mathlib.Core.Path.{sym, ap, _∙_}
 use mir.Facts.{toZ-ofZ}
 use Rattle.aberzhan.specs.Inside.{committed}
 use borrow.Author.Needs.{needs}

@@ -1,5 +1,5 @@
 -- `block` meets its contract.
-use mathlib.Core.Path.{_≡_, sym, _∙_}
+use mathlib.Core.Path.{sym, _∙_}
 use denote.Ref.{now}
 use borrow.Author.Tests.{eq-eqb, ne-eqb, le-leb, lt-leb}
 use Rattle.meter.proofs.Ways.{block-done, block-18, block-6-i, block-6-v, block-5-long, block-5}

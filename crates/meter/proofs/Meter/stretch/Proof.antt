@@ -1,9 +1,7 @@
 -- `stretch` meets its contract.
-use Prim.Native.Nat.{_+_, _≤_}
 use native.Mathlib.Omega.{arith}
 use mathlib.Core.Path.{_≡_}
 use denote.Ref.{now}
-use lib.ListN.{length}
 use Rattle.meter.specs.Inside.{begunOf, stretchOf}
 use Rattle.meter.proofs.Keeping.{begun-is}
 use mathlib.Core.Bool.{true}

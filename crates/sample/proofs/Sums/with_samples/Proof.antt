@@ -1,7 +1,7 @@
 -- `with_samples` meets its contract.
 use Prim.Native.Nat.{_+_, _-_, _≤_}
-use mathlib.Core.Path.{_≡_, refl, sym, ap, ap₂, _∙_}
-use mathlib.Core.Bool.{Bool, true, _&&_}
+use mathlib.Core.Path.{_≡_, refl, sym, ap₂, _∙_}
+use mathlib.Core.Bool.{true, _&&_}
 use denote.Ref.{now}
 use lib.Dec.{leb}
 use lib.ListN.{length}
@@ -9,7 +9,6 @@ use borrow.Author.Needs.{needs}
 use borrow.Author.Tests.{leb-true, lt-leb, ne-eqb}
 use native.Mathlib.Omega.{arith}
 use Rattle.sample.specs.Sums.{ofAtMost, phaseInRange}
-use Rattle.sample.specs.Inside.{Spare, Phased}
 use Rattle.sample.proofs.Tests.{both-of, phased-of, room-of, few-is, joins, stays-unequal, stays-long, stays-by}
 use Rattle.sample.proofs.Sums.with_samples.Statement.{statement}
 use Rattle.sample.proofs.Sums.with_samples.Tie as tie

@@ -1,5 +1,5 @@
 -- `run` meets its contract.
-use mathlib.Core.Path.{_≡_, sym, ap, _∙_}
+use mathlib.Core.Path.{sym, ap, _∙_}
 use denote.Ref.{now}
 use lib.IntN.{pos}
 use lib.ListN.{getD}

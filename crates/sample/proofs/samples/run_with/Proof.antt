@@ -1,18 +1,16 @@
 -- `run_with` meets its contract. The loop keeps the sums, and the corrected current before the next sample.
-use Prim.Native.Nat.{ℕ, suc, _+_, _-_, _≤_, _<_}
+use Prim.Native.Nat.{suc, _+_, _-_, _≤_}
 use native.Mathlib.Omega.{arith}
-use mathlib.Core.Path.{_≡_, refl, sym, ap, _∙_}
+use mathlib.Core.Path.{_≡_, refl, sym, _∙_}
 use borrow.Author.Needs.{needs, sfits-of}
 use denote.Ref.{now}
 use lib.IntN.{ℤ, pos}
 use lib.ListN.{getD, length, drop}
-use lib.Signed.{mag}
 use mir.Syntax.{w32}
-use mir.Val.{SFits, toZ, ofZ}
+use mir.Val.{SFits, toZ}
 use mir.Facts.{toZ-ofZ}
 use Rattle.sample.specs.Sample.{corrected, mixed}
 use Rattle.sample.proofs.Corrections.{mixed-in, corrected-in}
-use Rattle.number.proofs.Ranges.{in-fits, in-mag}
 use Rattle.sample.specs.Sums.{previous, summed}
 use Rattle.sample.specs.Inside.{probedAll, probed}
 use Rattle.sample.specs.Sums.{samplesIn}
