@@ -158,7 +158,7 @@ abbrev pub slot1 : ℕ → List ℤ
 slot1 v = pos v ∷ replicate 5 (pos 0)
 
 abbrev pub energy : ℕ → ℕ → Energy
-energy count rest = record { count = count; rest = rest }
+energy count rest = record { count = count; remainder = rest }
 
 -- P is 30: 60 joins the remainder
 abbrev pub interval1 : Closed

@@ -7,30 +7,30 @@ use borrow.Author.Tests.{ne-eqb}
 use Rattle.energy.specs.declared.Energy.{Energy}
 use Rattle.energy.specs.Energies.{advanced}
 
-module _ (rest amount b : ℕ) (some : 0 < b) where
+module _ (remainder amount b : ℕ) (some : 0 < b) where
   -- a quotient and a remainder below b are the quotient and the remainder
-  parted : (q r : ℕ) → rest + amount ≡ q * b + r → r < b → ((rest + amount) / b ≡ q) × ((rest + amount) % b ≡ r)
+  parted : (q r : ℕ) → remainder + amount ≡ q * b + r → r < b → ((remainder + amount) / b ≡ q) × ((remainder + amount) % b ≡ r)
   parted q r e h =
-      let d : (rest + amount) / b ≡ q = div-eq-of-lt-le b (omega arith) (omega arith) in
-      (d, omega (arith, rw d at (div-add-mod' (rest + amount) b)))
+      let d : (remainder + amount) / b ≡ q = div-eq-of-lt-le b (omega arith) (omega arith) in
+      (d, omega (arith, rw d at (div-add-mod' (remainder + amount) b)))
 
-  sum-is : rest + amount ≡ (rest / b + amount / b) * b + (rest % b + amount % b)
-  sum-is = omega (arith, div-add-mod' rest b, div-add-mod' amount b)
+  sum-is : remainder + amount ≡ (remainder / b + amount / b) * b + (remainder % b + amount % b)
+  sum-is = omega (arith, div-add-mod' remainder b, div-add-mod' amount b)
 
-  pub without-carry : rest % b < b - amount % b → ((rest + amount) / b ≡ rest / b + amount / b) × ((rest + amount) % b ≡ rest % b + amount % b)
-  without-carry h = parted (rest / b + amount / b) (rest % b + amount % b) sum-is (omega arith)
+  pub without-carry : remainder % b < b - amount % b → ((remainder + amount) / b ≡ remainder / b + amount / b) × ((remainder + amount) % b ≡ remainder % b + amount % b)
+  without-carry h = parted (remainder / b + amount / b) (remainder % b + amount % b) sum-is (omega arith)
 
-  pub with-carry : b - amount % b ≤ rest % b → ((rest + amount) / b ≡ rest / b + amount / b + 1) × ((rest + amount) % b ≡ rest % b - (b - amount % b))
+  pub with-carry : b - amount % b ≤ remainder % b → ((remainder + amount) / b ≡ remainder / b + amount / b + 1) × ((remainder + amount) % b ≡ remainder % b - (b - amount % b))
   with-carry h =
-      parted (rest / b + amount / b + 1) (rest % b - (b - amount % b))
-      (omega (arith, sum-is, mod-lt amount some)) (omega (arith, mod-lt rest some, mod-lt amount some))
+      parted (remainder / b + amount / b + 1) (remainder % b - (b - amount % b))
+      (omega (arith, sum-is, mod-lt amount some)) (omega (arith, mod-lt remainder some, mod-lt amount some))
 
 -- the count keeps its last 24 bits, also where each part was cut to them before
 pub cut-before : (n x y c : ℕ) → (n % 16777216 + x % 16777216 + y % 16777216 + c) % 16777216 ≡ (n + (x + y + c)) % 16777216
 cut-before n x y c = omega arith
 
 -- the record, from its two parts
-pub advanced-is : (e : Energy) (amount b count rest : ℕ) → (b ≡ 0 → ⊥) → count ≡ (e .count + (e .rest + amount) / b) % 16777216 → rest ≡ (e .rest + amount) % b →
-    record { count = count; rest = rest } ≡ advanced e amount b
+pub advanced-is : (e : Energy) (amount b count remainder : ℕ) → (b ≡ 0 → ⊥) → count ≡ (e .count + (e .remainder + amount) / b) % 16777216 → remainder ≡ (e .remainder + amount) % b →
+    record { count = count; remainder = remainder } ≡ advanced e amount b
 unfolding advanced
-advanced-is e amount b count rest h p q = rw (ne-eqb b 0 h, p, q) refl
+advanced-is e amount b count remainder h p q = rw (ne-eqb b 0 h, p, q) refl

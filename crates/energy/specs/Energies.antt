@@ -6,12 +6,12 @@ use lib.IntN.{ℤ, pos, natAbs}
 use lib.Signed.{ltZ}
 use Rattle.energy.specs.declared.Energy.{Energy}
 
--- an amount joins the remainder; whole buckets go to the count, which keeps its last 24 bits, and the rest stays as remainder
+-- an amount joins the remainder; whole buckets go to the count, which keeps its last 24 bits, and what is left stays as remainder
 -- (a bucket is never 0: the start refuses it, and here it takes nothing)
 unfoldable pub advanced : Energy → ℕ → ℕ → Energy
 advanced e amount bucket = cond (eqb bucket 0) e (record {
-  count = (e .count + (e .rest + amount) / bucket) % 16777216;
-  rest = (e .rest + amount) % bucket;
+  count = (e .count + (e .remainder + amount) / bucket) % 16777216;
+  remainder = (e .remainder + amount) % bucket;
 })
 
 -- the amount joins only its own direction
@@ -30,4 +30,4 @@ minusAfter p n bucket e = joinedBy (ltZ p (pos 0)) e (amountOf p n) bucket
 
 -- nothing counted yet
 abbrev pub noEnergy : Energy
-noEnergy = record { count = 0; rest = 0 }
+noEnergy = record { count = 0; remainder = 0 }

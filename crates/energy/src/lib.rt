@@ -4,7 +4,7 @@ ghost use Rattle.energy.specs.Energies.{advanced, amountOf};
 
 pub struct Energy {
     pub count: u32,
-    pub rest: u64,
+    pub remainder: u64,
 }
 
 // What an interval of n samples with active power p adds to the record of its sign.
@@ -22,22 +22,22 @@ impl Energy {
         if bucket == 0 {
             return self;
         }
-        let had = self.rest % bucket;
+        let had = self.remainder % bucket;
         let more = amount % bucket;
         let whole = self.count as u64 % 16777216
-            + self.rest / bucket % 16777216
+            + self.remainder / bucket % 16777216
             + amount / bucket % 16777216;
         if had < bucket - more {
             let kept = whole % 16777216;
             return Energy {
                 count: kept as u32,
-                rest: had + more,
+                remainder: had + more,
             };
         }
         let kept = (whole + 1) % 16777216;
         Energy {
             count: kept as u32,
-            rest: had - (bucket - more),
+            remainder: had - (bucket - more),
         }
     }
 }

@@ -66,7 +66,7 @@ twice = plusAfter (pos 30) 4 100 once
 
 -- one bucket more than the count can show
 unfoldable pub beyond : Energy
-beyond = plusAfter (pos 100) 1 100 (record { count = 16777215; rest = 0 })
+beyond = plusAfter (pos 100) 1 100 (record { count = 16777215; remainder = 0 })
 
 unfoldable pub figures : List (ℤ × ℤ)
 figures =
@@ -89,8 +89,8 @@ figures =
     ∷ (watt (having 8 (pos 3) plain) minusFive, negsuc 1)
     ∷ (watt (having 8 (pos 5) plain) minusFive, pos 0)
     ∷ (pos (once .count), pos 1)  -- C11
-    ∷ (pos (once .rest), pos 20)
+    ∷ (pos (once .remainder), pos 20)
     ∷ (pos (twice .count), pos 2)
-    ∷ (pos (twice .rest), pos 40)
+    ∷ (pos (twice .remainder), pos 40)
     ∷ (pos (beyond .count), pos 0)  -- C12
     ∷ []

@@ -118,7 +118,10 @@ impl Closed {
         ensures { λ r. ⌜ r ≡ noneClosed ⌝ }
     {
         let serial = Serial::none();
-        let nothing = Energy { count: 0, rest: 0 };
+        let nothing = Energy {
+            count: 0,
+            remainder: 0,
+        };
         Closed {
             number: 0,
             serial,

@@ -6,7 +6,7 @@ use Rattle.address.specs.Addresses.{trackable, untracked, words, position, byte
 use Rattle.port.specs.Reading.{registers, slotOff, look}
 use Rattle.port.specs.Table.{TableRead}
 
-module _ (va-rms ia-rms ia-peak watt-a va-a pfa ia-crest : ℤ) (pos-cnt neg-cnt plus-rest minus-rest : ℕ) (min1 min2 min3 min4 min5 min6 max1 max2 max3 max4 max5 max6 : ℤ) where
-  pub table-read : TableRead va-rms ia-rms ia-peak watt-a va-a pfa ia-crest pos-cnt neg-cnt plus-rest minus-rest min1 min2 min3 min4 min5 min6 max1 max2 max3 max4 max5 max6
+module _ (va-rms ia-rms ia-peak watt-a va-a pfa ia-crest : ℤ) (pos-cnt neg-cnt plus-remainder minus-remainder : ℕ) (min1 min2 min3 min4 min5 min6 max1 max2 max3 max4 max5 max6 : ℤ) where
+  pub table-read : TableRead va-rms ia-rms ia-peak watt-a va-a pfa ia-crest pos-cnt neg-cnt plus-remainder minus-remainder min1 min2 min3 min4 min5 min6 max1 max2 max3 max4 max5 max6
   unfolding look registerOf byteOf position words trackable untracked slotOff registers
   table-read = record { all-on = refl; all-off = refl; third-off = refl; no-register = refl }

@@ -23,7 +23,7 @@ returns c =
 returns-2 : tie.Need-returns-2
 returns-2 c =
     let h = c .before .fits .x in
-    rw (toZ-ofZ h, toZ-ofZ (shifted-fits 9223372036854775808 h))
+    simp (toZ-ofZ h, toZ-ofZ (shifted-fits 9223372036854775808 h))
     (shr-floor (c .before .args .x) 9223372036854775808 ∙ floor-far (c .before .args .bits) h (c .if1 .left))
 
 pub floor-div-spec : {M : Type 1} → statement M

@@ -51,7 +51,7 @@ returns-2 : tie.Need-returns-2
 returns-2 c =
     let e = c .before .before .before .before in
     let a = e .before .args in
-    let h = without-carry (a .self .rest) (a .amount) (a .bucket) (some e) (c .if2 .taken) in
+    let h = without-carry (a .self .remainder) (a .amount) (a .bucket) (some e) (c .if2 .taken) in
     advanced-is (a .self) (a .amount) (a .bucket) _ _ (e .if1 .left) (omega (arith, h .0)) (sym (h .1))
 
 add-kept : tie.Need-add-kept
@@ -70,7 +70,7 @@ returns-3 : tie.Need-returns-3
 returns-3 c =
     let e = c .before .before .before .before in
     let a = e .before .args in
-    let h = with-carry (a .self .rest) (a .amount) (a .bucket) (some e) (c .if2 .left) in
+    let h = with-carry (a .self .remainder) (a .amount) (a .bucket) (some e) (c .if2 .left) in
     advanced-is (a .self) (a .amount) (a .bucket) _ _ (e .if1 .left) (omega (arith, h .0)) (sym (h .1))
 
 pub advanced-spec : {M : Type 1} → statement M
