@@ -7,15 +7,10 @@ use prog.Routine.{Routine}
 use prog.Wp.{Heap}
 use ghost.Atoms.{Atoms}
 use contract.Monad.{Fun}
-use Rattle.promise.specs.Determined.{Decided, DecidedIn}
+use Rattle.promise.specs.Determined.{DecidedIn}
 use Rattle.promise.proofs.Facts.{two-facts}
-use Rattle.reader.proofs.step_at.Kinds as step-at-k
-use Rattle.reader.proofs.step_at.Reads as step-at
 use Rattle.reader.proofs.new as new
 use Rattle.reader.proofs.next as next
-
-pub step-at-decided : Decided 1 step-at-k.ps step-at-k.r step-at.Pre step-at.Post
-step-at-decided = record { always = λ κs a. tt; determined = λ κs a p z z′ ws ws′ q q′. (q ∙ sym q′, refl) }
 
 module _ {M : Type 1} (𝓤 : URA M) (H : Heap 𝓤) (A : Atoms 𝓤) (mem : Memory → SProp 𝓤) (run : Routine → Fun 𝓤) where
   pub new-decided : DecidedIn 𝓤 new.ended (new.clauses 𝓤 H A mem run)

@@ -58,7 +58,7 @@ fn entry_step(entry: Entry, size: usize, len: usize, at: usize) -> Step
 }
 
 // The work of the reader, on a plain slice and a number.
-pub fn step_at(b: &[u8], at: usize) -> Step
+fn step_at(b: &[u8], at: usize) -> Step
     ensures { λ r. ⌜ r ≡ stepAt (now (b .entry)) at ⌝ }
 {
     let c = book::cards(b);

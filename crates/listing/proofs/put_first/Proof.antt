@@ -106,14 +106,16 @@ returns c =
     let f = w .put-text2 .ensures .0 in
     let g = c .put-text3 .ensures .0 in
     let z = e .1 in (
-      made-more l _ _ 0 (m .put-number2 .result) (c .put-text3 .result) (cardsWord ++ x ++ withdrawnWord ++ y) (10 ∷ [])
-          (made-more l _ _ 0 (w .put-text2 .result) (m .put-number2 .result) (cardsWord ++ x ++ withdrawnWord) y
-          (made-more l _ _ 0 (n .put-number .result) (w .put-text2 .result) (cardsWord ++ x) withdrawnWord
-          (made-more l _ _ 0 (a .put-text .result) (n .put-number .result) cardsWord x (e .0) (first-number n) (omega (arith, z)))
-          f (omega (arith, z, length-append cardsWord x)))
-          (second-number m) (omega (arith, z, length-append cardsWord x, length-append (cardsWord ++ x) withdrawnWord)))
-          g (omega (arith, z, length-append cardsWord x, length-append (cardsWord ++ x) withdrawnWord, length-append (cardsWord ++ x ++ withdrawnWord) y)),
-      omega (arith, g .place, second-number m .place, f .place, first-number n .place, e .0 .place),
+      (
+        made-more l _ _ 0 (m .put-number2 .result) (c .put-text3 .result) (cardsWord ++ x ++ withdrawnWord ++ y) (10 ∷ [])
+            (made-more l _ _ 0 (w .put-text2 .result) (m .put-number2 .result) (cardsWord ++ x ++ withdrawnWord) y
+            (made-more l _ _ 0 (n .put-number .result) (w .put-text2 .result) (cardsWord ++ x) withdrawnWord
+            (made-more l _ _ 0 (a .put-text .result) (n .put-number .result) cardsWord x (e .0) (first-number n) (omega (arith, z)))
+            f (omega (arith, z, length-append cardsWord x)))
+            (second-number m) (omega (arith, z, length-append cardsWord x, length-append (cardsWord ++ x) withdrawnWord)))
+            g (omega (arith, z, length-append cardsWord x, length-append (cardsWord ++ x) withdrawnWord, length-append (cardsWord ++ x ++ withdrawnWord) y)),
+        omega (arith, g .place, second-number m .place, f .place, first-number n .place, e .0 .place),
+      ),
       z,
     )
 

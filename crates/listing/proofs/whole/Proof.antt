@@ -21,8 +21,8 @@ put-entries-requires c κs =
     let e = c .before .put-first .ensures in
     record {
       formed = sym (t .before .is-book .ensures) ∙ t .if1 .taken;
-      wide = made-length _ _ _ _ _ (e .0) (omega (arith, e .1, e .2)) ∙ e .2;
-      first = e .1;
+      wide = made-length _ _ _ _ _ (e .0 .0) (omega (arith, e .0 .1, e .1)) ∙ e .1;
+      first = e .0 .1;
     }
 
 returns : tie.Need-returns
@@ -32,8 +32,8 @@ returns c =
     let t = f .before .before in
     let s = t .before .before .before in
     let b = now (s .args .book) in
-    let m = made-more (now (s .args .out)) _ _ 0 (f .put-first .result) (c .put-entries .result) (firstLine b) (entriesText b) (f .put-first .ensures .0) (c .put-entries .ensures .0)
-    (omega (arith, f .put-first .ensures .2, c .put-entries .ensures .1, c .put-entries .ensures .0 .place, f .put-first .ensures .0 .place)) in
+    let m = made-more (now (s .args .out)) _ _ 0 (f .put-first .result) (c .put-entries .result) (firstLine b) (entriesText b) (f .put-first .ensures .0 .0) (c .put-entries .ensures .0)
+    (omega (arith, f .put-first .ensures .1, c .put-entries .ensures .1, c .put-entries .ensures .0 .place, f .put-first .ensures .0 .0 .place)) in
     rw (sym (t .before .is-book .ensures) ∙ t .if1 .taken) ((omega (arith, m .place), m .line), c .put-entries .ensures .1)
 
 slice-aggregate-put-text : tie.Need-slice-aggregate-put-text
