@@ -50,8 +50,3 @@ saidText said.Held number serial = heldLine number serial
 -- the whole line of a turn
 unfoldable pub answerText : Turn → List ℕ
 answerText t = saidText (t .said) (t .number) (t .serial)
-
--- a line put behind what is gathered of the lines before it, in a buffer with so much room; where that is too little, those are
--- written out, and it is the first of the next
-unfoldable pub gathered : ℕ → List ℕ → List ℕ → List ℕ
-gathered room lines line = cond (leb (length lines + length line) room) (lines ++ line) line

@@ -1,8 +1,8 @@
 -- Laws of the walk that puts a line for each entry: what holds at each turn, and what stands when the reader is at the end.
-use Prim.Native.Nat.{ℕ, zero, suc, _+_, _*_, _-_, _≤_, _<_}
-use mathlib.Core.Path.{_≡_, refl, sym, ap, _∙_}
+use Prim.Native.Nat.{ℕ, suc, _+_, _*_, _-_, _≤_, _<_}
+use mathlib.Core.Path.{_≡_, sym, ap, _∙_}
 use mathlib.Core.Bool.{Bool, true, false, not, true≢false}
-use mathlib.Core.List.{List, _++_}
+use mathlib.Core.List.{List}
 use native.Mathlib.Omega.{arith}
 use lib.Dec.{T, ltb, ltb→lt, nltb→le}
 use lib.ListN.{length}
@@ -13,7 +13,7 @@ use Rattle.reader.specs.Walk.{stepAt, stepAfter}
 use Rattle.reader.proofs.Steps.{not-back}
 use Rattle.reader.proofs.Promise.{promise}
 use Rattle.listing.specs.Lines.{lines, isEntry, stepText, entriesText}
-use Rattle.listing.specs.Buffer.{Made, Open}
+use Rattle.listing.specs.Buffer.{Made}
 use Rattle.listing.proofs.Lines.{made-none, made-more}
 use Rattle.listing.proofs.Walked.{walked-listing}
 

@@ -1,8 +1,8 @@
 -- `cardlist::main` hands `print` the listing of the bytes that it read.
 use Prim.Native.Nat.{ℕ, _≤_}
-use mathlib.Core.Path.{_≡_, sym}
+use mathlib.Core.Path.{sym}
 use native.Mathlib.Omega.{arith}
-use lib.ListN.{length, take, replicate, length-replicate}
+use lib.ListN.{length, replicate, length-replicate}
 use lib.Seq.{length-take-le}
 use Rattle.listing.proofs.Lines.{out-within, taken-out}
 use borrow.Author.Needs.{needs}

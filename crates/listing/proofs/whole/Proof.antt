@@ -1,7 +1,6 @@
 -- `whole` meets its contract: the first line and the lines of the entries, or the one line for a bad book.
-use mathlib.Core.Path.{_≡_, sym, _∙_}
+use mathlib.Core.Path.{sym, _∙_}
 use native.Mathlib.Omega.{arith}
-use lib.ListN.{length}
 use denote.Ref.{now}
 use Rattle.listing.specs.Lines.{firstLine, entriesText, refusedLine, listing}
 use Rattle.listing.proofs.Lines.{made-more, made-length}
