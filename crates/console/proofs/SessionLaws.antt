@@ -15,7 +15,7 @@ use Rattle.serial.proofs.Places.{front-put}
 use Rattle.aberzhan.specs.declared.Module.{Module}
 use Rattle.console.specs.Texts.{lengthTo}
 use Rattle.console.specs.Answers.{answerText}
-use Rattle.console.specs.Session.{Talk, silent, lineTurn, ended, keeping, talked, OneTalk}
+use Rattle.console.specs.Session.{Talk, silent, lineTurn, ended, keeping, talked, begin, answersTo, OneTalk}
 
 -- ---- the k bytes that are kept of a line
 pub empty : (line : List ℕ) (k : ℕ) → k ≡ 0 → silent (take k line) ≡ true
@@ -132,8 +132,19 @@ unfolding talked
 talked-behind t p [] = refl
 talked-behind t p (c ∷ cs) = ap (λ (u : Talk). talked u cs) (byte-behind (eqb c 10) p t c) ∙ talked-behind (cond (eqb c 10) (ended t) (keeping t (c ∷ []))) p cs
 
+in-parts : (xs ys : List ℕ) →
+    let t = talked begin xs in
+    answersTo (xs ++ ys) ≡ t .said ++ ended (talked (record { state = t .state; kept = t .kept; said = [] }) ys) .said
+unfolding answersTo
+in-parts xs ys =
+    let t = talked begin xs in
+    let w : Talk = record { state = t .state; kept = t .kept; said = [] } in
+    ap (λ (u : Talk). ended u .said)
+    (cut begin xs ys ∙ ap (λ (l : List ℕ). talked (record { state = t .state; kept = t .kept; said = l }) ys) (sym (append-nil (t .said))) ∙ talked-behind w (t .said) ys)
+    ∙ ap (λ (u : Talk). u .said) (ended-behind (t .said) (talked w ys))
+
 pub one-talk : OneTalk
-one-talk = record { cut-anywhere = cut; written-first = talked-behind }
+one-talk = record { cut-anywhere = cut; written-first = talked-behind; answers-in-parts = in-parts }
 
 -- ---- the buffers
 -- more bytes of a line put behind those that are kept: all, or as many as have room
@@ -156,12 +167,15 @@ module _ (part : List ℕ) (at r : ℕ) (feed : r ≡ lengthTo 10 (drop at part)
   turn-keeps t l =
       talk-keeps r (drop at part) t l (omega (arith, feed)) ∙ ap (talked (keeping t (take r (drop at part)))) (drop-drop r at part)
 
-  pub turn-ends : (t : Talk) → at + r < length part → talked t (drop (at + r) part) ≡ talked (ended t) (drop (at + r + 1) part)
+  turn-ends : (t : Talk) → at + r < length part → talked t (drop (at + r) part) ≡ talked (ended t) (drop (at + r + 1) part)
   turn-ends t h =
       let g : getD part (at + r) 0 ≡ 10 =
       sym (getD-drop at part r 0) ∙ ap (λ (k : ℕ). getD (drop at part) k 0) feed ∙ at-feed (drop at part) (simp length-drop (omega (arith, feed))) in
       ap (talked t) (drop-cons part (at + r) 0 h ∙ ap (λ (c : ℕ). c ∷ drop (suc (at + r)) part) g ∙ ap (λ (k : ℕ). 10 ∷ drop k part) (sym (add-one (at + r))))
       ∙ talk-ends t (drop (at + r + 1) part)
+
+  pub turn-answers : (t u : Talk) → u ≡ ended t → at + r < length part → talked u (drop (at + r + 1) part) ≡ talked t (drop (at + r) part)
+  turn-answers t u e h = ap (λ (w : Talk). talked w (drop (at + r + 1) part)) e ∙ sym (turn-ends t h)
 
 pub kept-talk : (m : Module) (said line part now-kept : List ℕ) (at r kept : ℕ) → length line ≡ 131072 →
     now-kept ≡ take (length line) (take kept line ++ take (at + r - at) (drop at part)) →

@@ -48,8 +48,11 @@ talked t (c ∷ cs) = talked (cond (eqb c 10) (ended t) (keeping t (c ∷ []))) 
 unfoldable pub fresh : Module
 fresh = startOf (pos 0) (pos 0) (wordAddr (pos 0) ∷ wordAddr (pos 0) ∷ wordAddr (pos 0) ∷ wordAddr (pos 0) ∷ wordAddr (pos 0) ∷ wordAddr (pos 0) ∷ []) .after
 
+abbrev pub begin : Talk
+begin = record { state = fresh; kept = []; said = [] }
+
 unfoldable pub answersTo : List ℕ → List ℕ
-answersTo input = ended (talked (record { state = fresh; kept = []; said = [] }) input) .said
+answersTo input = ended (talked begin input) .said
 
 -- ---- the session of the code
 -- with its two buffers it is such a talk
@@ -83,3 +86,7 @@ pub record OneTalk : Type 0 where
   pub written-first : (t : Talk) (before cs : List ℕ) →
       talked (record { state = t .state; kept = t .kept; said = before ++ t .said }) cs
       ≡ record { state = talked t cs .state; kept = talked t cs .kept; said = before ++ talked t cs .said }
+  -- so the answers to a whole input are those of its first part, and then those of the rest from where the first part led
+  pub answers-in-parts : (xs ys : List ℕ) →
+      let t = talked begin xs in
+      answersTo (xs ++ ys) ≡ t .said ++ ended (talked (record { state = t .state; kept = t .kept; said = [] }) ys) .said

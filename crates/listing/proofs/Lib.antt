@@ -2,5 +2,6 @@
 pub mod Lines
 pub mod Walked
 pub mod Walking
+pub mod EntryTurns
 pub mod Examples
 pub mod Decided

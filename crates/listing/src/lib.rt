@@ -146,7 +146,7 @@ fn put_entries(book: &[u8], out: &mut [u8; ROOM], from: usize) -> usize
     at
 }
 
-// The listing of a book, or the one line for bytes that are none; gives its length.
+// The listing of a book, or the one line for bytes that are no book; gives its length.
 pub fn whole(book: &[u8], out: &mut [u8; ROOM]) -> usize
     ensures { λ r. ⌜ (r ≡ length (listing (now (book .entry)))) × (now (out .exit) ≡ put (now (out .entry)) 0 (listing (now (book .entry)))) ⌝ }
     ensures { λ r. ⌜ r ≤ 205852 ⌝ }

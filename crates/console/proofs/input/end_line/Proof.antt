@@ -1,5 +1,5 @@
 -- `end_line` answers a line, and leaves the session at the beginning of the next.
-use Prim.Native.Nat.{ℕ, _≤_, _+_}
+use Prim.Native.Nat.{ℕ, _+_}
 use mathlib.Core.Path.{_≡_, refl, sym, ap, _∙_}
 use mathlib.Core.List.{List, _++_}
 use native.Mathlib.Omega.{arith}
@@ -8,7 +8,7 @@ use lib.ListN.{take}
 use lib.Seq.{length-take-le}
 use Rattle.console.specs.declared.turns.Turn.{Turn}
 use Rattle.console.specs.Answers.{answerText}
-use Rattle.console.specs.Session.{Talk, lineTurn, talkOf}
+use Rattle.console.specs.Session.{lineTurn, talkOf}
 use Rattle.console.proofs.SessionLaws.{empty, comment, other, ends-silent, ends-answered}
 use borrow.Author.Needs.{needs}
 use Rattle.console.proofs.input.end_line.Statement.{statement}

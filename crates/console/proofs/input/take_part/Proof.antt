@@ -1,6 +1,6 @@
 -- `take_part` goes from line feed to line feed: what it makes of the bytes is the talk that they are.
 use borrow.Author.Needs.{needs}
-use Prim.Native.Nat.{_+_, _-_, _*_, _≤_}
+use Prim.Native.Nat.{_+_, _-_, _≤_}
 use mathlib.Core.Path.{_≡_, refl, sym, ap, _∙_}
 use native.Mathlib.Omega.{arith}
 use mathlib.Core.List.{[]}
@@ -8,7 +8,7 @@ use lib.ListN.{length, take, drop, length-drop, length-take, drop-of-length-le}
 use Rattle.console.specs.Texts.{lengthTo}
 use Rattle.console.specs.Session.{Talk, Ready, talkOf, talked}
 use Rattle.console.proofs.TextLaws.{to-within, rest-of}
-use Rattle.console.proofs.SessionLaws.{turn-keeps, turn-ends, kept-talk}
+use Rattle.console.proofs.SessionLaws.{turn-keeps, turn-answers, kept-talk}
 use Rattle.console.proofs.input.take_part.Statement.{statement}
 use Rattle.console.proofs.input.take_part.Tie as tie
 
@@ -123,8 +123,7 @@ loop-again c =
         i-room = m .1 .1 .1 .0 ∙ i .0 .i-room;
       },
       omega arith,
-      ap (λ (t : Talk). talked t (drop (p .loop .at + l .length-to .result + 1) (a .part .now))) (e .0)
-          ∙ sym (turn-ends (a .part .now) (p .loop .at) (l .length-to .result) (feed l) _ f) ∙ kept-on k,
+      turn-answers (a .part .now) (p .loop .at) (l .length-to .result) (feed l) _ _ (e .0) f ∙ kept-on k,
       k .keep .kept .0 ∙ i .3,
       m .1 .1 .0 ∙ i .4,
       m .1 .1 .1 .0 ∙ i .5,

@@ -1,6 +1,5 @@
 -- `put` gathers a line behind those before it.
 use mathlib.Core.Path.{refl, _∙_}
-use native.Mathlib.Omega.{arith}
 use denote.Ref.{now}
 use Rattle.serial.proofs.Places.{put-fits, front-put}
 use borrow.Author.Needs.{needs}
