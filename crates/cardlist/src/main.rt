@@ -1,39 +1,24 @@
-// Prints the card book on standard input: document 01, "The listing". Every line is made by the library.
+// Prints the card book on standard input: document 01, "The listing". The listing is made whole before a byte of it is written.
+ghost use mathlib.Core.Path.{_≡_};
+ghost use Rattle.listing.specs.Lines.{listing};
+use libc::STDIN_FILENO;
 use libc::STDOUT_FILENO;
 
-// The reader's place goes from entry to entry; a book has at most 1,024 cards and 512 withdrawn serials.
-fn print_entries(book: &[u8]) {
-    let mut line = [0u8; 160];
-    let mut at: usize = 2;
-    for k in 0..1536usize {
-        let n = listing::entry_line(book, at, &mut line);
-        print(line, n);
-        let s = reader::read(book, at);
-        at = s.next;
+// Writes the listing of a book. Whoever calls it has to show that the text is that listing, whole.
+fn print(book: &[u8], text: &[u8])
+    requires { ⌜ now text ≡ listing (now book) ⌝ }
+{
+    if io::write_all(STDOUT_FILENO, text) {
+        return;
     }
-}
-
-fn print(line: [u8; 160], n: usize) {
-    if n <= 160 {
-        io::write_all(STDOUT_FILENO, &line[0..n]);
-    }
-}
-
-fn print_book(book: &[u8]) {
-    let mut line = [0u8; 160];
-    if book::is_book(book) {
-        let n = listing::first_line(book, &mut line);
-        print(line, n);
-        print_entries(book);
-    } else {
-        let n = listing::refused_line(&mut line);
-        print(line, n);
-    }
+    os::fail(b"cardlist: standard output");
 }
 
 // Of a longer input, the first 65,536 bytes are read; they are no book either.
 fn main() {
     let mut input = io::large_buffer();
-    let n = io::read_full(0, &mut input);
-    print_book(&input[..n]);
+    let n = io::read_full(STDIN_FILENO, &mut input);
+    let mut text = [0u8; listing::ROOM];
+    let length = listing::whole(&input[..n], &mut text);
+    print(&input[..n], &text[..length]);
 }

@@ -1,5 +1,5 @@
 -- Taking numbers one after another into a buffer. What was taken and the row behind it make up the whole row.
-use Prim.Native.Nat.{ℕ, zero, suc, _+_, _-_, _^_, _≤_, _<_, suc-le-suc}
+use Prim.Native.Nat.{ℕ, zero, suc, _+_, _-_, _≤_, _<_, suc-le-suc}
 use mathlib.Core.Path.{_≡_, refl, sym, ap, _∙_}
 use mathlib.Core.Bool.{Bool, true, false, cond, _&&_}
 use mathlib.Core.List.{List, [], _∷_, _++_, append-assoc, append-nil}
@@ -8,14 +8,13 @@ use native.Mathlib.Numerals.{add-one}
 use native.Mathlib.Omega.{arith}
 use lib.IntN.{ℤ, pos, negsuc}
 use lib.Signed.{leZ}
-use lib.ListN.{length, take, drop, set, length-set, length-drop, length-take, take-append-drop}
+use lib.ListN.{length, take, drop, set, length-set, length-drop}
 use lib.Seq.{take-suc-set, drop-drop, length-take-le}
 use mir.Syntax.{w32}
 use mir.Val.{SFits}
 use borrow.Author.Tests.{leb-true}
 use Rattle.console.specs.declared.items.Next.{Next}
 use Rattle.console.specs.declared.items.Next.the-variants as next
-use Rattle.console.specs.declared.items.Row.{Row}
 use Rattle.console.specs.declared.numerals.Number.{Number}
 use Rattle.console.specs.declared.numerals.Number.the-variants as number
 use Rattle.console.specs.Texts.{beginsWith, lengthTo}

@@ -1,7 +1,6 @@
 -- Laws of a line that is put together piece by piece.
-use Prim.Native.Nat.{ℕ, _+_, _≤_, _<_}
+use Prim.Native.Nat.{ℕ, _+_, _≤_}
 use mathlib.Core.Path.{_≡_, sym, ap, _∙_}
-use mathlib.Core.Bool.{Bool, cond}
 use mathlib.Core.List.{List, _++_}
 use native.Mathlib.Nat.{zero-add}
 use native.Mathlib.Omega.{arith}
@@ -9,12 +8,9 @@ use lib.ListN.{length, take, length-append}
 use mir.Syntax.{w32, w64}
 use mir.Val.{Fits, toZ}
 use Rattle.number.proofs.Fits.{read32}
-use lib.Seq.{length-take-le}
-use borrow.Author.Tests.{le-leb, lt-leb}
 use Rattle.serial.specs.Places.{put}
 use Rattle.serial.proofs.Places.{put-more, front-put}
 use Rattle.decimal.specs.Decimals.{decimal, signedDecimal}
-use Rattle.console.specs.Answers.{gathered}
 
 -- the line l is l₀ with a text put at its start, and at is the place after it
 pub record Made (l₀ l : List ℕ) (at : ℕ) (text : List ℕ) : Type 0 where
@@ -39,16 +35,3 @@ count-text n l = rw (read32 n l)
 -- a text put at a line's start, taken out again
 pub taken-out : (b text : List ℕ) → length text ≤ length b → take (length text) (put b 0 text) ≡ text
 taken-out b text l = ap (λ (k : ℕ). take k (put b 0 text)) (sym (zero-add (length text))) ∙ front-put b text 0 (omega arith)
-
--- ---- lines gathered
-pub put-behind : (b line : List ℕ) (used : ℕ) → used + length line ≤ length b → take (used + length line) (put b used line) ≡ gathered (length b) (take used b) line
-unfolding gathered
-put-behind b line used l =
-    front-put b line used l
-    ∙ sym (ap (λ (t : Bool). cond t (take used b ++ line) line) (le-leb (length (take used b) + length line) (length b) (omega (arith, length-take-le used b (omega arith)))))
-
-pub put-anew : (b line : List ℕ) (used : ℕ) → used ≤ length b → length line ≤ length b → length b < used + length line → take (length line) (put b 0 line) ≡ gathered (length b) (take used b) line
-unfolding gathered
-put-anew b line used u l n =
-    taken-out b line l
-    ∙ sym (ap (λ (t : Bool). cond t (take used b ++ line) line) (lt-leb (length (take used b) + length line) (length b) (omega (arith, length-take-le used b u))))

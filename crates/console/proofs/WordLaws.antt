@@ -7,7 +7,7 @@ use lib.ListN.{length}
 use Rattle.console.specs.declared.words.Word.{Word}
 use Rattle.console.specs.Texts.{beginsWith}
 use Rattle.console.specs.Words.{lettersOf, words, firstOf, wordOf}
-use Rattle.console.proofs.TextLaws.{begins-end, begins-within}
+use Rattle.console.proofs.TextLaws.{begins-within}
 
 module _ (w : Word) (ws : List Word) (line : List ℕ) where
   pub chosen : beginsWith (lettersOf w) line ≡ true → firstOf (w ∷ ws) line ≡ w

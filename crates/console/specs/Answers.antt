@@ -1,10 +1,12 @@
 -- The line that answers a turn, from reference/CONSOLE.md, "Answers". One space, 32, parts its items; a line feed, 10, ends it.
-use Prim.Native.Nat.{ℕ, _+_}
+use Prim.Native.Nat.{ℕ, _+_, _≤_}
+use mathlib.Core.Path.{_≡_}
 use mathlib.Core.Bool.{cond}
 use mathlib.Core.List.{List, [], _∷_, _++_}
 use lib.Dec.{leb}
 use lib.IntN.{ℤ, pos}
 use lib.ListN.{length, take}
+use Rattle.serial.specs.Places.{put}
 use Rattle.decimal.specs.Decimals.{decimal, signedDecimal}
 use Rattle.serial.specs.declared.Serial.{Serial}
 use Rattle.console.specs.declared.turns.Said.{Said}
@@ -51,7 +53,15 @@ saidText said.Held number serial = heldLine number serial
 unfoldable pub answerText : Turn → List ℕ
 answerText t = saidText (t .said) (t .number) (t .serial)
 
--- a line put behind what is gathered of the lines before it, in a buffer with so much room; where that is too little, those are
--- written out, and it is the first of the next
-unfoldable pub gathered : ℕ → List ℕ → List ℕ → List ℕ
-gathered room lines line = cond (leb (length lines + length line) room) (lines ++ line) line
+-- ---- a line that is put together in a buffer of 64 bytes
+-- a text was put into the buffer at a place, and r is the place after it
+abbrev pub PutInto : List ℕ → List ℕ → ℕ → ℕ → List ℕ → Type 0
+PutInto before after at r text = (r ≡ at + length text) × (after ≡ put before at text) × (length before ≡ 64)
+
+-- the same of a text of at most so many bytes
+abbrev pub PutShort : List ℕ → List ℕ → ℕ → ℕ → List ℕ → ℕ → Type 0
+PutShort before after at r text most = (r ≡ at + length text) × (after ≡ put before at text) × (length text ≤ most)
+
+-- the buffer begins with a line of r bytes
+abbrev pub Whole : List ℕ → List ℕ → ℕ → List ℕ → Type 0
+Whole before after r line = (r ≡ length line) × (after ≡ put before 0 line) × (r ≤ 64)

@@ -1,6 +1,6 @@
 -- A number as a line has it: decimal with an optional `-`, or `0x` and hexadecimal digits, within the range of i64.
 use Prim.Native.Nat.{ℕ, _+_, _-_, _*_, _^_}
-use mathlib.Core.Bool.{Bool, cond, _&&_}
+use mathlib.Core.Bool.{cond, _&&_}
 use mathlib.Core.List.{List, [], _∷_}
 use lib.Dec.{leb, ltb}
 use lib.IntN.{pos, negℤ}

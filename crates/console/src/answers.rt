@@ -1,17 +1,15 @@
 // The line that answers a turn, made whole in a lent buffer.
-ghost use mathlib.Core.Path.{_≡_};
 ghost use Prim.Native.Nat.{_+_, _≤_};
 ghost use lib.ListN.{length};
-ghost use Rattle.serial.specs.Places.{put};
 ghost use Rattle.decimal.specs.Decimals.{signedDecimal};
-ghost use Rattle.console.specs.Answers.{numberLine, digitsText, heldLine, saidText};
+ghost use Rattle.console.specs.Answers.{numberLine, digitsText, heldLine, saidText, PutInto, PutShort, Whole};
 use super::turns::Said;
 use serial::Serial;
 
 // Puts a text at a place of the line, and gives the place after it.
 fn put_text(line: &mut [u8; 64], at: usize, text: &[u8]) -> usize
     requires { ⌜ at + length (now text) ≤ 64 ⌝ }
-    ensures { λ r. ⌜ (r ≡ at + length (now (text .entry))) × (now (line .exit) ≡ put (now (line .entry)) at (now (text .entry))) × (length (now (line .entry)) ≡ 64) ⌝ }
+    ensures { λ r. ⌜ PutInto (now (line .entry)) (now (line .exit)) at r (now (text .entry)) ⌝ }
 {
     serial::put_at(line, at, text);
     at + text.len()
@@ -19,7 +17,7 @@ fn put_text(line: &mut [u8; 64], at: usize, text: &[u8]) -> usize
 
 fn put_number(line: &mut [u8; 64], at: usize, v: i64) -> usize
     requires { ⌜ at + 20 ≤ 64 ⌝ }
-    ensures { λ r. ⌜ (r ≡ at + length (signedDecimal v)) × (now (line .exit) ≡ put (now (line .entry)) at (signedDecimal v)) × (length (signedDecimal v) ≤ 20) ⌝ }
+    ensures { λ r. ⌜ PutShort (now (line .entry)) (now (line .exit)) at r (signedDecimal v) 20 ⌝ }
 {
     let t = decimal::number_text(v);
     let bytes = t.bytes;
@@ -29,7 +27,7 @@ fn put_number(line: &mut [u8; 64], at: usize, v: i64) -> usize
 
 fn put_digits(line: &mut [u8; 64], at: usize, s: Serial) -> usize
     requires { ⌜ at + 12 ≤ 64 ⌝ }
-    ensures { λ r. ⌜ (r ≡ at + length (digitsText s)) × (now (line .exit) ≡ put (now (line .entry)) at (digitsText s)) × (length (digitsText s) ≤ 12) ⌝ }
+    ensures { λ r. ⌜ PutShort (now (line .entry)) (now (line .exit)) at r (digitsText s) 12 ⌝ }
 {
     let digits = s.digits;
     let n = s.len as usize;
@@ -42,7 +40,7 @@ fn put_digits(line: &mut [u8; 64], at: usize, s: Serial) -> usize
 // A word with the space behind it, and a number.
 fn number_line(line: &mut [u8; 64], word: &[u8], v: i64) -> usize
     requires { ⌜ length (now word) ≤ 8 ⌝ }
-    ensures { λ r. ⌜ (r ≡ length (numberLine (now (word .entry)) v)) × (now (line .exit) ≡ put (now (line .entry)) 0 (numberLine (now (word .entry)) v)) × (r ≤ 64) ⌝ }
+    ensures { λ r. ⌜ Whole (now (line .entry)) (now (line .exit)) r (numberLine (now (word .entry)) v) ⌝ }
 {
     let a = put_text(line, 0, word);
     let b = put_number(line, a, v);
@@ -51,7 +49,7 @@ fn number_line(line: &mut [u8; 64], word: &[u8], v: i64) -> usize
 
 // An interval's number and its serial.
 fn held_line(line: &mut [u8; 64], number: u32, serial: Serial) -> usize
-    ensures { λ r. ⌜ (r ≡ length (heldLine number serial)) × (now (line .exit) ≡ put (now (line .entry)) 0 (heldLine number serial)) × (r ≤ 64) ⌝ }
+    ensures { λ r. ⌜ Whole (now (line .entry)) (now (line .exit)) r (heldLine number serial) ⌝ }
 {
     let a = put_text(line, 0, b"ok ");
     let b = put_number(line, a, number as i64);
@@ -62,7 +60,7 @@ fn held_line(line: &mut [u8; 64], number: u32, serial: Serial) -> usize
 
 // What is said, as a line; gives its length.
 pub(super) fn answer_line(line: &mut [u8; 64], said: Said, number: u32, serial: Serial) -> usize
-    ensures { λ r. ⌜ (r ≡ length (saidText said number serial)) × (now (line .exit) ≡ put (now (line .entry)) 0 (saidText said number serial)) × (r ≤ 64) ⌝ }
+    ensures { λ r. ⌜ Whole (now (line .entry)) (now (line .exit)) r (saidText said number serial) ⌝ }
 {
     match said {
         Said::Unread => put_text(line, 0, b"UNREAD\n"),

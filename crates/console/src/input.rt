@@ -1,8 +1,9 @@
 // Standard input, taken apart into lines. A line may come in several reads, so its bytes are kept until its end.
 ghost use mathlib.Core.Path.{_≡_};
-ghost use Prim.Native.Nat.{_≤_};
-ghost use lib.ListN.{length};
-ghost use Rattle.console.specs.Session.{Ready, Answered};
+ghost use mathlib.Core.List.{_++_};
+ghost use Prim.Native.Nat.{_+_, _≤_};
+ghost use lib.ListN.{length, take};
+ghost use Rattle.console.specs.Session.{Ready, Rooms, fresh, talkOf, ended, talked, written};
 use super::output::put_answer;
 use super::texts::length_to;
 use super::turns::take_line;
@@ -26,7 +27,7 @@ pub struct More {
 
 // Before any start the module is that of a refused one.
 fn begun() -> Session
-    ensures { λ r. ⌜ (r .kept ≤ 0) × (r .used ≤ 0) ⌝ }
+    ensures { λ r. ⌜ r ≡ record { «module» = fresh; kept = 0; used = 0 } ⌝ }
 {
     let off = word_addr(0);
     let s = Module::start(0, 0, [off, off, off, off, off, off]);
@@ -38,28 +39,26 @@ fn begun() -> Session
     }
 }
 
-// Keeps more bytes of a line, up to one more than a line may have.
+// Keeps more bytes of a line, as far as there is room.
 fn keep(line: &mut [u8], kept: usize, part: &[u8]) -> usize
     requires { ⌜ kept ≤ length (now line) ⌝ }
-    ensures { λ r. ⌜ r ≤ length (now (line .exit)) ⌝ }
+    ensures { λ r. ⌜ take r (now (line .exit)) ≡ take (length (now (line .entry))) (take kept (now (line .entry)) ++ now (part .entry)) ⌝ }
+    ensures { λ r. ⌜ r ≤ length (now (line .entry)) ⌝ }
 {
-    let mut at = kept;
-    let mut k = 0;
-    while k < part.len() {
-        if at == line.len() {
-            return at;
-        }
-        line[at] = part[k];
-        at += 1;
-        k += 1;
+    let room = line.len() - kept;
+    if part.len() <= room {
+        serial::put_at(line, kept, part);
+        return kept + part.len();
     }
-    at
+    serial::put_at(line, kept, &part[..room]);
+    line.len()
 }
 
 // At a line's end: an empty line and a comment have no answer.
 fn end_line(s: Session, line: &[u8], v: &mut [i32], i: &mut [i32], out: &mut [u8]) -> Session
-    requires { ⌜ Ready s (now line) (now out) ⌝ }
-    ensures { λ r. ⌜ Ready r (now (line .entry)) (now (out .exit)) × Answered (length (now (v .entry))) (length (now (i .entry))) s r (now (line .entry)) (now (out .entry)) (now (out .exit)) ⌝ }
+    requires { ⌜ Ready s (now line) (now out) (now v) (now i) 1 ⌝ }
+    ensures { λ r. ⌜ talkOf r (now (line .entry)) (now (out .exit)) ≡ ended (talkOf s (now (line .entry)) (now (out .entry))) ⌝ }
+    ensures { λ r. ⌜ (r .kept ≡ 0) × (r .used ≤ s .used + 64) ⌝ }
 {
     let kept = s.kept;
     let used = s.used;
@@ -93,8 +92,9 @@ fn take_part(
     i: &mut [i32],
     out: &mut [u8],
 ) -> Session
-    requires { ⌜ Ready s (now line) (now out) ⌝ }
-    ensures { λ r. ⌜ Ready r (now (line .exit)) (now (out .exit)) ⌝ }
+    requires { ⌜ Ready s (now line) (now out) (now v) (now i) (length (now part)) ⌝ }
+    ensures { λ r. ⌜ talkOf r (now (line .exit)) (now (out .exit)) ≡ talked (talkOf s (now (line .entry)) (now (out .entry))) (now (part .entry)) ⌝ }
+    ensures { λ r. ⌜ (r .kept ≤ 131072) × (r .used ≤ length (now (out .exit))) ⌝ }
 {
     let mut s = s;
     let mut at = 0;
@@ -112,18 +112,29 @@ fn take_part(
     s
 }
 
-fn write_out(s: Session, out: &[u8]) -> Session
+// Writes the answers out; an output that takes no more ends the session.
+fn write_out(s: Session, out: &[u8]) -> More
     requires { ⌜ s .used ≤ length (now out) ⌝ }
-    ensures { λ r. ⌜ (r .kept ≡ s .kept) × (r .used ≡ 0) ⌝ }
+    ensures { λ r. ⌜ r .session ≡ written s ⌝ }
 {
     let used = s.used;
-    io::write_all(STDOUT_FILENO, &out[..used]);
+    let kept = s.kept;
     let module = s.module;
-    Session {
+    let more = print(&out[..used]);
+    let session = Session {
         module,
-        kept: s.kept,
+        kept,
         used: 0,
+    };
+    More { session, more }
+}
+
+fn print(text: &[u8]) -> bool {
+    if io::write_all(STDOUT_FILENO, text) {
+        return true;
     }
+    os::fail(b"console: standard output");
+    false
 }
 
 // One read. Its answers are written before the next, so that whoever types sees each answer.
@@ -135,8 +146,8 @@ fn read_some(
     i: &mut [i32],
     out: &mut [u8],
 ) -> More
-    requires { ⌜ Ready s (now line) (now out) ⌝ }
-    ensures { λ r. ⌜ Ready (r .session) (now (line .exit)) (now (out .exit)) ⌝ }
+    requires { ⌜ Ready s (now line) (now out) (now v) (now i) (length (now chunk)) ⌝ }
+    ensures { λ r. ⌜ Ready (r .session) (now (line .exit)) (now (out .exit)) (now (v .exit)) (now (i .exit)) (length (now (chunk .exit))) ⌝ }
 {
     let got = libc::read(STDIN_FILENO, chunk);
     let n = io::count(got, chunk);
@@ -147,16 +158,12 @@ fn read_some(
         };
     }
     let t = take_part(s, &chunk[..n], line, v, i, out);
-    let session = write_out(t, out);
-    More {
-        session,
-        more: true,
-    }
+    write_out(t, out)
 }
 
 // Reads to the end of the input. Nothing says that there is one, so the turns are counted down, from a number that no run uses up.
 pub(super) fn run(chunk: &mut [u8], line: &mut [u8], v: &mut [i32], i: &mut [i32], out: &mut [u8])
-    requires { ⌜ 64 ≤ length (now out) ⌝ }
+    requires { ⌜ Rooms (now chunk) (now line) (now out) (now v) (now i) ⌝ }
 {
     let mut s = begun();
     let mut turns = u64::MAX;

@@ -9,10 +9,10 @@ mod turns;
 mod words;
 
 fn main() {
-    let mut chunk = [0u8; 65536];
+    let mut chunk = [0u8; 4096];
     let mut line = [0u8; 131072];
     let mut v = [0i32; 8192];
     let mut i = [0i32; 8192];
-    let mut out = [0u8; 65536];
+    let mut out = [0u8; 262144];
     input::run(&mut chunk, &mut line, &mut v, &mut i, &mut out);
 }

@@ -1,7 +1,6 @@
 // A number as a line has it: decimal with an optional `-`, or `0x` and hexadecimal digits, within the range of i64.
 ghost use mathlib.Core.Path.{_≡_};
 ghost use Prim.Native.Nat.{_≤_};
-ghost use Rattle.console.specs.Texts.{beginsWith};
 ghost use Rattle.console.specs.Numbers.{digitOf, digitsOf, positive, negative, valueOf};
 use super::texts::begins;
 

@@ -1,7 +1,5 @@
 // Words, and the items of a line, which one space parts.
 ghost use mathlib.Core.Path.{_≡_};
-ghost use Prim.Native.Nat.{_≤_};
-ghost use lib.ListN.{length};
 ghost use Rattle.console.specs.Texts.{beginsWith, lengthTo};
 
 // Whether a text begins with a word.

@@ -1,7 +1,8 @@
 // A line as a step of the module, and what it comes to.
 ghost use mathlib.Core.Path.{_≡_};
 ghost use lib.ListN.{length};
-ghost use Rattle.console.specs.Turns.{unreadTurn, saidOf, steppedTurn, heldSaid, heldTurn, readSaid, readTurn, startTurn, numbersTurn, withNumbers, withText, withSamples, turnOf};
+ghost use Rattle.console.specs.Turns.{unreadTurn, saidOf, steppedTurn, heldSaid, heldTurn, readSaid, readTurn};
+ghost use Rattle.console.specs.Turns.{startTurn, numbersTurn, withNumbers, withText, withSamples, turnOf};
 use super::items::take_numbers;
 use super::items::take_samples;
 use super::texts::begins;

@@ -11,42 +11,47 @@ use mir.Syntax.{w64}
 use mir.Val.{toZ}
 use mir.Facts.{toZ-pos}
 use Rattle.serial.specs.Places.{part, put}
-use Rattle.serial.proofs.Places.{put-none, put-more}
+use Rattle.serial.proofs.Places.{put-none, put-more, length-put, front-put}
 use Rattle.serial.specs.Serials.{textOf}
 use Rattle.decimal.specs.Decimals.{decimal, signedDecimal}
 use Rattle.listing.specs.Lines.{fieldsText}
+use Rattle.listing.specs.Buffer.{Made}
 use Rattle.decimal.proofs.Digits.{limit, at-most}
-
--- the line l is l₀ with a text put at from, and at is the place after it
-pub record Made (l₀ l : List ℕ) (from at : ℕ) (text : List ℕ) : Type 0 where
-  pub line : l ≡ put l₀ from text
-  pub place : at ≡ from + length text
 
 pub made-none : (l : List ℕ) (from : ℕ) → Made l l from from []
 made-none l from = record { line = sym (put-none l from); place = sym (add-zero from) }
 
-pub made-first : (l₀ l : List ℕ) (from at : ℕ) (xs : List ℕ) → (at ≡ from + length xs) × (l ≡ put l₀ from xs) → Made l₀ l from at xs
-made-first l₀ l from at xs h = record { line = h .1; place = h .0 }
-
-pub made-more : (l₀ l l′ : List ℕ) (from at at′ : ℕ) (text xs : List ℕ) → Made l₀ l from at text → (at′ ≡ at + length xs) × (l′ ≡ put l at xs) → from + length text + length xs ≤ length l₀
+-- a text put right behind another
+pub made-more : (l₀ l l′ : List ℕ) (from at at′ : ℕ) (text xs : List ℕ) → Made l₀ l from at text → Made l l′ at at′ xs → from + length text + length xs ≤ length l₀
     → Made l₀ l′ from at′ (text ++ xs)
 made-more l₀ l l′ from at at′ text xs m h fits =
     record {
-      line = h .1 ∙ ap (λ (r : List ℕ). put r at xs) (m .line) ∙ ap (λ (k : ℕ). put (put l₀ from text) k xs) (m .place) ∙ put-more l₀ text xs from fits;
-      place = simp length-append (omega (arith, h .0, m .place));
+      line =
+          h .line ∙ ap (λ (r : List ℕ). put r at xs) (m .line) ∙ ap (λ (k : ℕ). put (put l₀ from text) k xs) (m .place)
+          ∙ put-more l₀ text xs from fits;
+      place = simp length-append (omega (arith, h .place, m .place));
     }
 
--- a line made from the start
-pub made-whole : (l₀ l : List ℕ) (at : ℕ) (text : List ℕ) → Made l₀ l 0 at text → (at ≡ length text) × (l ≡ put l₀ 0 text)
-made-whole l₀ l at text m = (omega (arith, m .place), m .line)
+-- the buffer keeps its length
+pub made-length : (l₀ l : List ℕ) (from at : ℕ) (text : List ℕ) → Made l₀ l from at text → at ≤ length l₀ → length l ≡ length l₀
+made-length l₀ l from at text m h = ap length (m .line) ∙ length-put l₀ text from (omega (arith, m .place))
 
--- a line that was longer than what was put into it was so before
-pub made-in : (l₀ l : List ℕ) (from at : ℕ) (text : List ℕ) → Made l₀ l from at text → length l ≡ 160 → at < 160 → length l₀ ≡ 160
+-- a buffer that a text fitted into was as long before
+pub made-in : (l₀ l : List ℕ) (from at : ℕ) (text : List ℕ) → Made l₀ l from at text → length l ≡ 205852 → at < 205852 → length l₀ ≡ 205852
 unfolding put
 made-in l₀ l from at text m z h =
-    let e : min from (length l₀) + length text + (length l₀ - (from + length text)) ≡ 160 =
+    let e : min from (length l₀) + length text + (length l₀ - (from + length text)) ≡ 205852 =
     sym (simp (length-append, length-take, length-drop) refl) ∙ ap length (sym (m .line)) ∙ z in
     omega (arith, m .place)
+
+-- what a caller finds at the start of the buffer: the text, whole
+pub out-within : (l₀ l text : List ℕ) (n : ℕ) → (n ≡ length text) × (l ≡ put l₀ 0 text) → n ≤ length l₀ → n ≤ length l
+out-within l₀ l text n h room = rw (h .1, length-put l₀ text 0 (omega (arith, h .0))) room
+
+pub taken-out : (l₀ l text : List ℕ) (n : ℕ) → (n ≡ length text) × (l ≡ put l₀ 0 text) → n ≤ length l₀ → take n l ≡ text
+taken-out l₀ l text n h room =
+    let z : n ≡ 0 + length text = omega (arith, h .0) in
+    ap (λ (k : ℕ). take k l) z ∙ ap (take (0 + length text)) (h .1) ∙ front-put l₀ text 0 (omega (arith, h .0))
 
 -- a count, cast to a signed number
 pub count-text : (n : ℕ) → n ≤ 65535 → signedDecimal (toZ w64 n) ≡ decimal n
@@ -74,8 +79,8 @@ fields-more (v ∷ vs) zero l = append-nil (32 ∷ signedDecimal v)
 fields-more (v ∷ vs) (suc i) l = rw (fields-more vs i (le-of-suc-le-suc l)) (sym (append-assoc (32 ∷ signedDecimal v) (fieldsText (take i vs)) (32 ∷ signedDecimal (getD vs i (pos 0)))))
 
 -- a turn of the loop that writes the fields: a space, and the number
-pub fields-turn : (l₀ l l₁ l₂ : List ℕ) (from at a b : ℕ) (f : List ℤ) (i : ℕ) → i < length f → at + 12 ≤ length l₀ → length (signedDecimal (getD f i (pos 0))) ≤ 11 → Made l₀ l from at (fieldsText (take i f))
-    → (a ≡ at + 1) × (l₁ ≡ put l at (32 ∷ [])) → (b ≡ a + length (signedDecimal (getD f i (pos 0)))) × (l₂ ≡ put l₁ a (signedDecimal (getD f i (pos 0))))
+pub fields-turn : (l₀ l l₁ l₂ : List ℕ) (from at a b : ℕ) (f : List ℤ) (i : ℕ) → i < length f → at + 12 ≤ length l₀ → length (signedDecimal (getD f i (pos 0))) ≤ 11
+    → Made l₀ l from at (fieldsText (take i f)) → Made l l₁ at a (32 ∷ []) → Made l₁ l₂ a b (signedDecimal (getD f i (pos 0)))
     → Made l₀ l₂ from b (fieldsText (take (i + 1) f))
 fields-turn l₀ l l₁ l₂ from at a b f i h room short m p q =
     let v = getD f i (pos 0) in

@@ -1,17 +1,14 @@
 -- A listing made by a walk of the book has the lines of the definition.
 use Prim.Native.Nat.{ℕ, zero, suc, _+_, _<_}
 use mathlib.Core.Path.{_≡_, refl, sym, ap, _∙_}
-use mathlib.Core.Bool.{true, cond}
-use mathlib.Core.List.{List, [], _++_, append-nil, append-assoc}
+use mathlib.Core.Bool.{true}
+use mathlib.Core.List.{List, _++_, append-nil, append-assoc}
 use native.Mathlib.Omega.{arith}
-use borrow.Author.Tests.{lt-ltb}
-use Rattle.serial.specs.Places.{part}
-use Rattle.section.specs.Sections.{placeOf, entryAt}
+use Rattle.section.specs.Sections.{entryAt}
 use Rattle.book.specs.Book.{cards, withdrawn, wellFormed}
-use Rattle.reader.specs.declared.Step.{Step}
-use Rattle.reader.specs.Walk.{placeAfter}
+use Rattle.reader.specs.Walk.{stepAfter}
 use Rattle.reader.proofs.Promise.{promise}
-use Rattle.listing.specs.Lines.{cardText, serialText, cardLine, withdrawnLine, entryLine, lines, WalkedListing}
+use Rattle.listing.specs.Lines.{cardLine, withdrawnLine, lines, entriesText, lineAt, stepText, WalkedListing}
 
 -- lines that agree one by one agree together
 lines-same : (p q : ℕ → List ℕ) (n : ℕ) → ((k : ℕ) → k < n → p k ≡ q k) → lines p n ≡ lines q n
@@ -28,20 +25,18 @@ lines-apart p n (suc m) =
     ap (lines p) z ∙ ap (λ (l : List ℕ). l ++ p (n + m)) (lines-apart p n m) ∙ append-assoc (lines p n) (lines (λ (j : ℕ). p (n + j)) m) (p (n + m))
 
 module _ (b : List ℕ) (formed : wellFormed b ≡ true) where
-  -- the text of a step
-  abbrev textFor : Step → List ℕ
-  textFor s = cond (s .card) (cardText (part b (s .at) 37)) (cond (s .withdrawn) (serialText (part b (s .at) 13)) [])
+  card-walked : (k : ℕ) → k < cards b .count → stepText b (stepAfter b k) ≡ cardLine b k
+  unfolding lineAt cardLine entryAt
+  card-walked k h = ap (stepText b) (promise b formed .each-card k h)
 
-  card-walked : (k : ℕ) → k < cards b .count → entryLine b (placeAfter b k) ≡ cardLine b k
-  unfolding entryLine cardLine entryAt
-  card-walked k h = ap textFor (promise b formed .each-card k h) ∙ sym (ap (λ t. cond t (cardText (part b (placeOf (cards b) k) 37)) []) (lt-ltb k (cards b .count) h))
-
-  serial-walked : (j : ℕ) → j < withdrawn b .count → entryLine b (placeAfter b (cards b .count + j)) ≡ withdrawnLine b j
-  unfolding entryLine withdrawnLine entryAt
-  serial-walked j h = ap textFor (promise b formed .each-serial j h) ∙ sym (ap (λ t. cond t (serialText (part b (placeOf (withdrawn b) j) 13)) []) (lt-ltb j (withdrawn b .count) h))
+  serial-walked : (j : ℕ) → j < withdrawn b .count → stepText b (stepAfter b (cards b .count + j)) ≡ withdrawnLine b j
+  unfolding lineAt withdrawnLine entryAt
+  serial-walked j h = ap (stepText b) (promise b formed .each-serial j h)
 
 pub walked-listing : WalkedListing
+unfolding entriesText
 walked-listing b formed =
-    lines-apart (λ (k : ℕ). entryLine b (placeAfter b k)) (cards b .count) (withdrawn b .count)
-    ∙ ap (λ (l : List ℕ). l ++ lines (λ (j : ℕ). entryLine b (placeAfter b (cards b .count + j))) (withdrawn b .count)) (lines-same _ (cardLine b) (cards b .count) (card-walked b formed))
+    lines-apart (λ (k : ℕ). stepText b (stepAfter b k)) (cards b .count) (withdrawn b .count)
+    ∙ ap (λ (l : List ℕ). l ++ lines (λ (j : ℕ). stepText b (stepAfter b (cards b .count + j))) (withdrawn b .count))
+    (lines-same _ (cardLine b) (cards b .count) (card-walked b formed))
     ∙ ap (λ (l : List ℕ). lines (cardLine b) (cards b .count) ++ l) (lines-same _ (withdrawnLine b) (withdrawn b .count) (serial-walked b formed))

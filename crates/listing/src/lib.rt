@@ -1,30 +1,36 @@
-// The lines of the listing, each made whole in a lent buffer.
+// The listing of a card book, made whole in a lent buffer: document 01, "The listing".
 ghost use mathlib.Core.Path.{_≡_};
 ghost use Prim.Native.Nat.{_+_, _≤_};
 ghost use lib.ListN.{length};
 ghost use Rattle.serial.specs.Places.{part, put};
 ghost use Rattle.decimal.specs.Decimals.{signedDecimal};
 ghost use Rattle.serial.specs.Serials.{textOf};
-ghost use Rattle.listing.specs.Lines.{fieldsText, cardText, serialText, refusedLine, firstLine, entryLine};
+ghost use Rattle.listing.specs.Lines.{fieldsText, cardText, serialText, firstLine, isEntry, stepText, entriesText, listing};
+ghost use Rattle.listing.specs.Buffer.{Made, Open};
+use reader::Entry;
+use reader::Step;
 
-// Puts a text at a place of the line, and gives the place after it.
-fn put_text(line: &mut [u8; 160], at: usize, text: &[u8]) -> usize
-    requires { ⌜ at + length (now text) ≤ 160 ⌝ }
-    ensures { λ r. ⌜ (r ≡ at + length (now (text .entry))) × (now (line .exit) ≡ put (now (line .entry)) at (now (text .entry))) × (length (now (line .entry)) ≡ 160) ⌝ }
+// No listing is longer: the first line has at most 28 bytes, and each of at most 1,536 others 134.
+pub const ROOM: usize = 205852;
+
+// Puts a text at a place, and gives the place after it.
+fn put_text(out: &mut [u8; ROOM], at: usize, text: &[u8]) -> usize
+    requires { ⌜ at + length (now text) ≤ 205852 ⌝ }
+    ensures { λ r. ⌜ Made (now (out .entry)) (now (out .exit)) at r (now (text .entry)) × (length (now (out .entry)) ≡ 205852) ⌝ }
 {
-    serial::put_at(line, at, text);
+    serial::put_at(out, at, text);
     at + text.len()
 }
 
-// Puts a number at a place of the line, and gives the place after it.
-fn put_number(line: &mut [u8; 160], at: usize, v: i64) -> usize
-    requires { ⌜ at + length (signedDecimal v) ≤ 160 ⌝ }
-    ensures { λ r. ⌜ (r ≡ at + length (signedDecimal v)) × (now (line .exit) ≡ put (now (line .entry)) at (signedDecimal v)) × (length (now (line .entry)) ≡ 160) ⌝ }
+// Puts a number at a place, and gives the place after it.
+fn put_number(out: &mut [u8; ROOM], at: usize, v: i64) -> usize
+    requires { ⌜ at + length (signedDecimal v) ≤ 205852 ⌝ }
+    ensures { λ r. ⌜ Made (now (out .entry)) (now (out .exit)) at r (signedDecimal v) × (length (now (out .entry)) ≡ 205852) ⌝ }
 {
     let t = decimal::number_text(v);
     let bytes = t.bytes;
     let from = t.from;
-    put_text(line, at, &bytes[from..])
+    put_text(out, at, &bytes[from..])
 }
 
 // n bytes from a place on, as far as there are.
@@ -51,72 +57,103 @@ fn text_of(e: &[u8]) -> &[u8]
 }
 
 // Puts the fields in decimal, a space before each.
-fn put_fields(line: &mut [u8; 160], from: usize, fields: [i32; 8]) -> usize
-    requires { ⌜ from + 97 ≤ 160 ⌝ }
-    ensures { λ r. ⌜ (r ≡ from + length (fieldsText fields)) × (now (line .exit) ≡ put (now (line .entry)) from (fieldsText fields)) × (r ≤ from + 96) ⌝ }
+fn put_fields(out: &mut [u8; ROOM], from: usize, fields: [i32; 8]) -> usize
+    requires { ⌜ from + 97 ≤ 205852 ⌝ }
+    ensures { λ r. ⌜ Made (now (out .entry)) (now (out .exit)) from r (fieldsText fields) × (r ≤ from + 96) ⌝ }
 {
     let mut at = from;
     let mut i = 0;
     while i < 8 {
         let v = fields[i];
-        let next = put_text(line, at, b" ");
-        at = put_number(line, next, v as i64);
+        let next = put_text(out, at, b" ");
+        at = put_number(out, next, v as i64);
         i += 1;
     }
     at
 }
 
-fn put_card(line: &mut [u8; 160], c: &[u8]) -> usize
-    requires { ⌜ length (now c) ≤ 37 ⌝ }
-    ensures { λ r. ⌜ (r ≡ length (cardText (now (c .entry)))) × (now (line .exit) ≡ put (now (line .entry)) 0 (cardText (now (c .entry)))) ⌝ }
+fn put_card(out: &mut [u8; ROOM], from: usize, c: &[u8]) -> usize
+    requires { ⌜ (length (now c) ≤ 37) × (from + 134 ≤ 205852) ⌝ }
+    ensures { λ r. ⌜ Made (now (out .entry)) (now (out .exit)) from r (cardText (now (c .entry))) × (r ≤ from + 134) ⌝ }
 {
     let card = card::Card::of(c);
     let fields = card.fields;
-    let at = put_text(line, 0, text_of(c));
-    let end = put_fields(line, at, fields);
-    put_text(line, end, b"\n")
+    let at = put_text(out, from, text_of(c));
+    let end = put_fields(out, at, fields);
+    put_text(out, end, b"\n")
 }
 
-fn put_serial(line: &mut [u8; 160], e: &[u8]) -> usize
-    requires { ⌜ length (now e) ≤ 13 ⌝ }
-    ensures { λ r. ⌜ (r ≡ length (serialText (now (e .entry)))) × (now (line .exit) ≡ put (now (line .entry)) 0 (serialText (now (e .entry)))) ⌝ }
+fn put_serial(out: &mut [u8; ROOM], from: usize, e: &[u8]) -> usize
+    requires { ⌜ (length (now e) ≤ 13) × (from + 134 ≤ 205852) ⌝ }
+    ensures { λ r. ⌜ Made (now (out .entry)) (now (out .exit)) from r (serialText (now (e .entry))) × (r ≤ from + 134) ⌝ }
 {
-    let at = put_text(line, 0, b"W ");
-    let end = put_text(line, at, text_of(e));
-    put_text(line, end, b"\n")
+    let at = put_text(out, from, b"W ");
+    let end = put_text(out, at, text_of(e));
+    put_text(out, end, b"\n")
 }
 
-// The line for a bad book.
-pub fn refused_line(line: &mut [u8; 160]) -> usize
-    ensures { λ r. ⌜ (r ≡ length refusedLine) × (now (line .exit) ≡ put (now (line .entry)) 0 refusedLine) ⌝ }
-{
-    put_text(line, 0, b"REFUSED 2\n")
-}
-
-// The first line, with both counts.
-pub fn first_line(book: &[u8], line: &mut [u8; 160]) -> usize
-    ensures { λ r. ⌜ (r ≡ length (firstLine (now (book .entry)))) × (now (line .exit) ≡ put (now (line .entry)) 0 (firstLine (now (book .entry)))) ⌝ }
+// Puts the first line, with both counts.
+fn put_first(out: &mut [u8; ROOM], book: &[u8]) -> usize
+    ensures { λ r. ⌜ Made (now (out .entry)) (now (out .exit)) 0 r (firstLine (now (book .entry))) × (r ≤ 28) ⌝ }
+    ensures { λ _. ⌜ length (now (out .entry)) ≡ 205852 ⌝ }
 {
     let cards = book::cards(book).count;
     let withdrawn = book::withdrawn(book).count;
-    let a = put_text(line, 0, b"CARDS ");
-    let b = put_number(line, a, cards as i64);
-    let c = put_text(line, b, b" WITHDRAWN ");
-    let d = put_number(line, c, withdrawn as i64);
-    put_text(line, d, b"\n")
+    let a = put_text(out, 0, b"CARDS ");
+    let b = put_number(out, a, cards as i64);
+    let c = put_text(out, b, b" WITHDRAWN ");
+    let d = put_number(out, c, withdrawn as i64);
+    put_text(out, d, b"\n")
 }
 
-// The line of what a reader finds at a place: a card, a withdrawn serial, or nothing at the end.
-pub fn entry_line(book: &[u8], at: usize, line: &mut [u8; 160]) -> usize
-    ensures { λ r. ⌜ (r ≡ length (entryLine (now (book .entry)) at)) × (now (line .exit) ≡ put (now (line .entry)) 0 (entryLine (now (book .entry)) at)) ⌝ }
+// Whether the reader stands at an entry, and not at the end.
+fn is_entry(s: Step) -> bool
+    ensures { λ r. ⌜ r ≡ isEntry (s .entry) ⌝ }
 {
-    let s = reader::read(book, at);
-    let from = s.at;
-    if s.card {
-        return put_card(line, part_of(book, from, 37));
+    let e = s.entry;
+    match e {
+        Entry::Card => true,
+        Entry::Withdrawn => true,
+        Entry::End => false,
     }
-    if s.withdrawn {
-        return put_serial(line, part_of(book, from, 13));
+}
+
+// Puts the line of the entry where the reader stands.
+fn put_step(book: &[u8], s: Step, out: &mut [u8; ROOM], from: usize) -> usize
+    requires { ⌜ from + 134 ≤ 205852 ⌝ }
+    ensures { λ r. ⌜ Made (now (out .entry)) (now (out .exit)) from r (stepText (now (book .entry)) s) × (r ≤ from + 134) ⌝ }
+{
+    let e = s.entry;
+    let at = s.at;
+    match e {
+        Entry::Card => put_card(out, from, part_of(book, at, 37)),
+        Entry::Withdrawn => put_serial(out, from, part_of(book, at, 13)),
+        Entry::End => from,
     }
-    0
+}
+
+// Puts a line for each entry, in one walk of a reader from the first to the end.
+fn put_entries(book: &[u8], out: &mut [u8; ROOM], from: usize) -> usize
+    requires { ⌜ Open (now book) (now out) from ⌝ }
+    ensures { λ r. ⌜ Made (now (out .entry)) (now (out .exit)) from r (entriesText (now (book .entry))) × (r ≤ 205852) ⌝ }
+{
+    let mut r = reader::new(book);
+    let mut at = from;
+    while is_entry(r.here) {
+        at = put_step(book, r.here, out, at);
+        r = reader::next(r);
+    }
+    at
+}
+
+// The listing of a book, or the one line for bytes that are no book; gives its length.
+pub fn whole(book: &[u8], out: &mut [u8; ROOM]) -> usize
+    ensures { λ r. ⌜ (r ≡ length (listing (now (book .entry)))) × (now (out .exit) ≡ put (now (out .entry)) 0 (listing (now (book .entry)))) ⌝ }
+    ensures { λ r. ⌜ r ≤ 205852 ⌝ }
+{
+    if book::is_book(book) {
+        let at = put_first(out, book);
+        return put_entries(book, out, at);
+    }
+    put_text(out, 0, b"REFUSED 2\n")
 }

@@ -8,5 +8,5 @@ pub promise : Promise
 promise b formed = record {
   each-card = λ k h. cards-walked b formed k h;
   each-serial = λ j h. serials-walked b formed j h;
-  then-none = λ n h. (ap (λ (s : Step). s .card) (none-left b formed n h), ap (λ (s : Step). s .withdrawn) (none-left b formed n h));
+  then-none = λ n h. ap (λ (s : Step). s .entry) (none-left b formed n h);
 }

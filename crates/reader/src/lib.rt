@@ -3,18 +3,24 @@ ghost use mathlib.Core.Path.{_≡_};
 ghost use Prim.Native.Nat.{_≤_};
 ghost use Rattle.reader.specs.Walk.{pastCount, entryStep, noStep, stepAt};
 
-// What stands at a place: a card, a withdrawn serial, or neither at the end; and the place after it.
+// What can stand at a place of a book.
+pub enum Entry {
+    Card,
+    Withdrawn,
+    End,
+}
+
+// What stands there, the place of its first byte, and the place after it.
 pub struct Step {
-    pub card: bool,
-    pub withdrawn: bool,
+    pub entry: Entry,
     pub at: usize,
     pub next: usize,
 }
 
-// The book, and the reader's place in it.
+// The book, and what stands at the reader's place in it.
 pub struct Reader<'a> {
     pub book: &'a [u8],
-    pub at: usize,
+    pub here: Step,
 }
 
 // Behind the last card stands the count of the withdrawn serials, two bytes, which is passed over.
@@ -29,23 +35,21 @@ fn no_step(at: usize) -> Step
     ensures { λ r. ⌜ r ≡ noStep at ⌝ }
 {
     Step {
-        card: false,
-        withdrawn: false,
+        entry: Entry::End,
         at,
         next: at,
     }
 }
 
-// An entry of so many bytes, a card or a withdrawn serial, where the bytes are there.
-fn entry_step(card: bool, size: usize, len: usize, at: usize) -> Step
+// An entry of so many bytes, where the bytes are there.
+fn entry_step(entry: Entry, size: usize, len: usize, at: usize) -> Step
     requires { ⌜ (size ≤ 37) × (at ≤ 3276754) ⌝ }
-    ensures { λ r. ⌜ r ≡ entryStep card size len at ⌝ }
+    ensures { λ r. ⌜ r ≡ entryStep entry size len at ⌝ }
 {
     let end = at + size;
     if end <= len {
         return Step {
-            card,
-            withdrawn: !card,
+            entry,
             at,
             next: end,
         };
@@ -63,38 +67,30 @@ fn step_at(b: &[u8], at: usize) -> Step
     let end = w.base + w.count * 13;
     let from = past_count(at, cards_end);
     if from < cards_end {
-        return entry_step(true, 37, b.len(), from);
+        return entry_step(Entry::Card, 37, b.len(), from);
     }
     if from < end {
-        return entry_step(false, 13, b.len(), from);
+        return entry_step(Entry::Withdrawn, 13, b.len(), from);
     }
     no_step(from)
 }
 
-// A reader at the start of a book: behind the count of the cards.
+// A reader at the first entry of a book: behind the count of the cards.
 pub fn new<'a>(book: &'a [u8]) -> Reader<'a>
-    ensures { λ r. ⌜ (r .book ≡ book .entry) × (r .at ≡ 2) ⌝ }
+    ensures { λ r. ⌜ (r .book ≡ book .entry) × (r .here ≡ stepAt (now (book .entry)) 2) ⌝ }
 {
-    Reader { book, at: 2 }
+    Reader {
+        book,
+        here: step_at(book, 2),
+    }
 }
 
-// What stands at the reader's place.
-pub fn next<'a>(r: Reader<'a>) -> Step
-    ensures { λ s. ⌜ s ≡ stepAt (now (r .entry .book)) (r .entry .at) ⌝ }
+// The reader at the entry behind the one where it stands; at the end it stays.
+pub fn next<'a>(r: Reader<'a>) -> Reader<'a>
+    ensures { λ q. ⌜ (q .book ≡ r .entry .book) × (q .here ≡ stepAt (now (r .entry .book)) (r .entry .here .next)) ⌝ }
 {
-    step_at(r.book, r.at)
-}
-
-// The reader at another place of the same book.
-pub fn moved<'a>(r: Reader<'a>, at: usize) -> Reader<'a>
-    ensures { λ q. ⌜ (q .book ≡ r .entry .book) × (q .at ≡ at) ⌝ }
-{
-    Reader { book: r.book, at }
-}
-
-// What a reader finds at a place of a book: for every other caller.
-pub fn read(book: &[u8], at: usize) -> Step
-    ensures { λ r. ⌜ r ≡ stepAt (now (book .entry)) at ⌝ }
-{
-    next(Reader { book, at })
+    Reader {
+        book: r.book,
+        here: step_at(r.book, r.here.next),
+    }
 }

@@ -15,16 +15,17 @@ use Rattle.number.proofs.Fits.{range, widen}
 use Rattle.decimal.specs.Decimals.{signedDecimal}
 use Rattle.decimal.proofs.Digits.{limit, signed-at-most}
 use Rattle.listing.specs.Lines.{fieldsText}
-use Rattle.listing.proofs.Lines.{Made, made-none, made-in, fields-turn}
+use Rattle.listing.specs.Buffer.{Made}
+use Rattle.listing.proofs.Lines.{made-none, made-in, fields-turn}
 use borrow.Author.Needs.{needs}
 use Rattle.listing.proofs.put_fields.Statement.{statement}
 use Rattle.listing.proofs.put_fields.Tie as tie
 
 abbrev Inv-loop : tie.InvT-loop
-Inv-loop line₀ from fields at₀ i₀ t9 line at i = (i ≤ 8) × (from + 97 ≤ 160) × (t9 ≡ 32 ∷ []) × (Made line₀ line from at (fieldsText (take i fields))) × (at ≤ from + 12 * i)
+Inv-loop out₀ from fields at₀ i₀ t9 out at i = (i ≤ 8) × (from + 97 ≤ 205852) × (t9 ≡ 32 ∷ []) × (Made out₀ out from at (fieldsText (take i fields))) × (at ≤ from + 12 * i)
 
 abbrev μ-loop : tie.MeasureT-loop
-μ-loop line₀ from fields at₀ i₀ t9 line at i = 8 - i
+μ-loop out₀ from fields at₀ i₀ t9 out at i = 8 - i
 
 loop-holds : tie.Need-loop-holds Inv-loop μ-loop
 unfolding fieldsText
@@ -67,7 +68,7 @@ put-number-requires c κs =
     let d = v .before .before in
     let s = small v in
     rw (toZ-ofZ s, toZ-ofZ (widen s))
-    (omega (arith, c .before .put-text .ensures .0, d .loop .inv .4, short v))
+    (omega (arith, c .before .put-text .ensures .0 .place, d .loop .inv .4, short v))
 
 add-i : tie.Need-add-i Inv-loop μ-loop
 add-i c = search needs
@@ -85,13 +86,13 @@ loop-again c =
     let s = small v in
     let e = t .put-text .ensures in
     let q = rw (toZ-ofZ s, toZ-ofZ (widen s)) at (c .put-number .ensures) in
-    let whole : length (now (a .line)) ≡ 160 = made-in _ _ _ _ _ (d .loop .inv .3) (e .2) (omega (arith, d .loop .inv .4, d .loop .inv .1)) in (
+    let whole : length (now (a .out)) ≡ 205852 = made-in _ _ _ _ _ (d .loop .inv .3) (e .1) (omega (arith, d .loop .inv .4, d .loop .inv .1)) in (
       omega arith,
       d .loop .inv .1,
       refl,
-      fields-turn (now (a .line)) (d .loop .line) (t .put-text .last .0) (c .put-number .last .0) (a .from) (d .loop .at) (t .put-text .result) (c .put-number .result) (a .t3) (d .loop .i)
-          (search needs) (omega (arith, whole, d .loop .inv .1, d .loop .inv .4)) (short v) (d .loop .inv .3) (e .0, e .1) (q .0, q .1),
-      omega (arith, d .loop .inv .4, e .0, q .0, short v),
+      fields-turn (now (a .out)) (d .loop .out) (t .put-text .last .0) (c .put-number .last .0) (a .from) (d .loop .at) (t .put-text .result) (c .put-number .result) (a .t3) (d .loop .i)
+          (search needs) (omega (arith, whole, d .loop .inv .1, d .loop .inv .4)) (short v) (d .loop .inv .3) (e .0) (q .0),
+      omega (arith, d .loop .inv .4, e .0 .place, q .0 .place, short v),
     )
 
 returns : tie.Need-returns Inv-loop μ-loop
@@ -100,7 +101,7 @@ returns c =
     let e : c .before .loop .i ≡ 8 = omega arith in
     let eight : length (a .t3) ≡ 8 = search needs in
     let m = rw (e, take-all 8 (a .t3) (omega arith)) at (c .before .loop .inv .3) in
-    (m .place, m .line, omega (arith, c .before .loop .inv .4))
+    (m, omega (arith, c .before .loop .inv .4))
 
 pub put-fields-spec : {M : Type 1} → statement M
 put-fields-spec =

@@ -6,7 +6,7 @@ use lib.ListN.{length, length-append}
 use denote.Ref.{now}
 use Rattle.serial.specs.Serials.{textOf}
 use Rattle.listing.specs.Lines.{serialText}
-use Rattle.listing.proofs.Lines.{made-first, made-more, made-whole, text-short}
+use Rattle.listing.proofs.Lines.{made-more, text-short}
 use borrow.Author.Needs.{needs}
 use Rattle.listing.proofs.put_serial.Statement.{statement}
 use Rattle.listing.proofs.put_serial.Tie as tie
@@ -21,10 +21,10 @@ text-of-requires : tie.Need-text-of-requires
 text-of-requires c κs = search needs
 
 short : (c : tie.After-text-of) → length (now (c .text-of .result)) ≤ 13
-short c = rw (c .text-of .ensures) (text-short (now (c .before .before .before .before .before .before .args .e)) 13 (c .before .before .before .before .before .before .pre))
+short c = rw (c .text-of .ensures) (text-short (now (c .before .before .before .before .before .before .args .e)) 13 (c .before .before .before .before .before .before .pre .0))
 
 put-text-requires-2 : tie.Need-put-text-requires-2
-put-text-requires-2 c κs = omega (arith, c .before .before .put-text .ensures .0, short c)
+put-text-requires-2 c κs = omega (arith, c .before .before .put-text .ensures .0 .place, short c, c .before .before .before .before .before .before .pre .1)
 
 slice-aggregate-put-text-2 : tie.Need-slice-aggregate-put-text-2
 slice-aggregate-put-text-2 c = search needs
@@ -32,7 +32,7 @@ slice-aggregate-put-text-2 c = search needs
 put-text-requires-3 : tie.Need-put-text-requires-3
 put-text-requires-3 c κs =
     let p = c .before .before in
-    omega (arith, p .put-text2 .ensures .0, p .before .before .before .put-text .ensures .0, short (p .before))
+    omega (arith, p .put-text2 .ensures .0 .place, p .before .before .before .put-text .ensures .0 .place, short (p .before), p .before .before .before .before .before .before .before .pre .1)
 
 returns : tie.Need-returns
 unfolding serialText
@@ -41,18 +41,18 @@ returns c =
     let t = p .before in
     let q = t .before .before in
     let s = q .before .before .before .before in
-    let l = now (s .args .line) in
+    let l = now (s .args .out) in
     let e = q .put-text .ensures in
     let f = rw (t .text-of .ensures) at (p .put-text2 .ensures) in
     let g = c .put-text3 .ensures in
-    let z = e .2 in
     let text = textOf (now (s .args .e)) in
-    made-whole l (c .put-text3 .last .0) (c .put-text3 .result) _
-    (made-more l (p .put-text2 .last .0) (c .put-text3 .last .0) 0 (p .put-text2 .result) (c .put-text3 .result) ((87 ∷ 32 ∷ []) ++ text) (10 ∷ [])
-    (made-more l (q .put-text .last .0) (p .put-text2 .last .0) 0 (q .put-text .result) (p .put-text2 .result) (87 ∷ 32 ∷ []) text
-    (made-first l (q .put-text .last .0) 0 (q .put-text .result) (87 ∷ 32 ∷ []) (e .0, e .1))
-    (f .0, f .1) (omega (arith, z, text-short (now (s .args .e)) 13 (s .pre))))
-    (g .0, g .1) (omega (arith, z, text-short (now (s .args .e)) 13 (s .pre), length-append (87 ∷ 32 ∷ []) text)))
+    let n = text-short (now (s .args .e)) 13 (s .pre .0) in (
+      made-more l (p .put-text2 .last .0) (c .put-text3 .last .0) (s .args .from) (p .put-text2 .result) (c .put-text3 .result) ((87 ∷ 32 ∷ []) ++ text) (10 ∷ [])
+          (made-more l (q .put-text .last .0) (p .put-text2 .last .0) (s .args .from) (q .put-text .result) (p .put-text2 .result) (87 ∷ 32 ∷ []) text (e .0) (f .0)
+          (omega (arith, e .1, n, s .pre .1)))
+          (g .0) (omega (arith, e .1, n, s .pre .1, length-append (87 ∷ 32 ∷ []) text)),
+      omega (arith, g .0 .place, f .0 .place, e .0 .place, n),
+    )
 
 pub put-serial-spec : {M : Type 1} → statement M
 put-serial-spec =

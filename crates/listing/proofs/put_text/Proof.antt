@@ -17,8 +17,8 @@ add-result c = search needs
 returns : tie.Need-returns
 returns c =
     let a = c .before .before .before .args in
-    let whole : length (now (a .line)) ≡ 160 = search needs in
-    (refl, c .put-at .ensures ∙ put-fits (now (a .line)) (now (a .text)) (a .at) (omega arith), whole)
+    let whole : length (now (a .out)) ≡ 205852 = search needs in
+    (record { line = c .put-at .ensures ∙ put-fits (now (a .out)) (now (a .text)) (a .at) (omega arith); place = refl }, whole)
 
 pub put-text-spec : {M : Type 1} → statement M
 put-text-spec = tie.close (tie.spec put-at-requires add-result returns)

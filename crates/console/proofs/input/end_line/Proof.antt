@@ -1,19 +1,28 @@
--- `end_line` leaves the session ready for the next line.
-use mathlib.Core.Path.{sym, ap, _∙_}
+-- `end_line` answers a line, and leaves the session at the beginning of the next.
+use Prim.Native.Nat.{ℕ, _+_}
+use mathlib.Core.Path.{_≡_, refl, sym, ap, _∙_}
+use mathlib.Core.List.{List, _++_}
+use native.Mathlib.Omega.{arith}
 use denote.Ref.{now}
-use lib.ListN.{length, take}
+use lib.ListN.{take}
 use lib.Seq.{length-take-le}
 use Rattle.console.specs.declared.turns.Turn.{Turn}
-use Rattle.console.specs.Answers.{answerText, gathered}
-use Rattle.console.proofs.SessionLaws.{empty, comment, other, kept-module, stepped-module, kept-answers, more-answers}
+use Rattle.console.specs.Answers.{answerText}
+use Rattle.console.specs.Session.{lineTurn, talkOf}
+use Rattle.console.proofs.SessionLaws.{empty, comment, other, ends-silent, ends-answered}
 use borrow.Author.Needs.{needs}
 use Rattle.console.proofs.input.end_line.Statement.{statement}
 use Rattle.console.proofs.input.end_line.Tie as tie
 
 returns : tie.Need-returns
 returns c =
-    let e = empty (now (c .before .before .before .before .args .line)) _ (c .if1 .taken) in
-    (search needs, record { after = sym (kept-module _ _ _ _ e); answers = sym (kept-answers _ _ _ _ _ _ e) })
+    let s = c .before .before .before .before in
+    let line = now (s .args .line) in
+    let t = talkOf (s .args .s) line (now (s .args .out)) in
+    let e = empty line (s .args .s .kept) (c .if1 .taken) in (
+      ap (λ (k : List ℕ). record { state = t .state; kept = k; said = t .said }) (ap (λ (n : ℕ). take n line) (c .if1 .taken)) ∙ sym (ends-silent t e),
+      (c .if1 .taken, omega arith),
+    )
 
 shared-slice-read-if2 : tie.Need-shared-slice-read-if2
 shared-slice-read-if2 c = search needs
@@ -21,8 +30,9 @@ shared-slice-read-if2 c = search needs
 returns-2 : tie.Need-returns-2
 returns-2 c =
     let s = c .before .before .before .before .before .before in
-    let e = comment (now (s .args .line)) (s .args .s .kept) (s .pre .kept) (c .before .before .if1 .left) (c .if2 .taken) in
-    (search needs, record { after = sym (kept-module _ _ _ _ e); answers = sym (kept-answers _ _ _ _ _ _ e) })
+    let line = now (s .args .line) in
+    let e = comment line (s .args .s .kept) (s .pre .kept) (c .before .before .if1 .left) (c .if2 .taken) in
+    (sym (ends-silent (talkOf (s .args .s) line (now (s .args .out))) e), (refl, omega arith))
 
 slice-aggregate-take-line : tie.Need-slice-aggregate-take-line
 slice-aggregate-take-line c = sym (length-take-le _ _ (c .before .before .before .before .before .before .before .pre .kept))
@@ -42,13 +52,27 @@ same-length-2 c = search needs
 same-length-3 : tie.Need-same-length-3
 same-length-3 c = search needs
 
+-- what the line comes to
+turn : (c : tie.After-take-line) →
+    let s = c .before .before .before .before .before .before .before .before .before .before in
+    c .take-line .result ≡ lineTurn (s .args .s .«module») (take (s .args .s .kept) (now (s .args .line)))
+turn c =
+    let s = c .before .before .before .before .before .before .before .before .before .before in
+    rw (s .pre .v-room, s .pre .i-room) at (c .take-line .ensures)
+
 returns-3 : tie.Need-returns-3
 returns-3 c =
-    let s = c .before .before .before .before .before .before .before .before .before .before .before .before .before .before .before .before .before in
-    let t = c .before .before .before .before .before .before .before in
+    let l = c .before .before .before .before .before .before .before in
+    let s = l .before .before .before .before .before .before .before .before .before .before in
+    let b = l .before .before .before .before in
+    let line = now (s .args .line) in
     let out = now (s .args .out) in
-    let e = other (now (s .args .line)) (s .args .s .kept) (s .pre .kept) (c .before .before .before .before .before .before .before .before .before .before .before .before .before .if1 .left) (c .before .before .before .before .before .before .before .before .before .before .before .if2 .left) in
-    (search needs, record { after = ap (λ (u : Turn). u .after) (t .take-line .ensures) ∙ sym (stepped-module _ _ _ _ e); answers = c .before .before .put-answer .ensures .0 ∙ ap (λ (u : Turn). gathered (length out) (take (s .args .s .used) out) (answerText u)) (t .take-line .ensures) ∙ sym (more-answers _ _ _ _ _ _ e) })
+    let e = other line (s .args .s .kept) (s .pre .kept) (b .before .before .if1 .left) (b .if2 .left) in
+    let p = c .before .before .put-answer .ensures in
+    let z = p .0 ∙ ap (λ (u : Turn). take (s .args .s .used) out ++ answerText u) (turn l) in (
+      (λ j. record { state = turn l j .after; kept = take 0 line; said = z j }) ∙ sym (ends-answered (talkOf (s .args .s) line out) e),
+      (refl, p .1),
+    )
 
 pub end-line-spec : {M : Type 1} → statement M
 end-line-spec =

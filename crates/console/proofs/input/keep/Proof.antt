@@ -1,64 +1,68 @@
--- `keep` keeps within the line's buffer.
-use Prim.Native.Nat.{_-_, _≤_}
-use mathlib.Core.Path.{_≡_, refl}
+-- `keep` keeps as many bytes as the line's buffer has room for.
+use Prim.Native.Nat.{_-_}
+use mathlib.Core.Path.{sym, _∙_}
 use native.Mathlib.Omega.{arith}
-use lib.ListN.{length, length-set}
+use lib.ListN.{length, take}
+use lib.Seq.{length-take-le}
+use denote.Ref.{now}
+use Rattle.serial.proofs.Places.{put-fits, length-put}
+use Rattle.console.proofs.SessionLaws.{keeps-all, keeps-some}
+use borrow.Author.Needs.{needs}
 use Rattle.console.proofs.input.keep.Statement.{statement}
 use Rattle.console.proofs.input.keep.Tie as tie
 
-abbrev Inv-loop : tie.InvT-loop
-Inv-loop line₀ kept part at₀ k₀ line at k = (at ≤ length line) × (length line ≡ length line₀)
+sub-room : tie.Need-sub-room
+sub-room c = search needs
 
-abbrev μ-loop : tie.MeasureT-loop
-μ-loop line₀ kept part at₀ k₀ line at k = length part - k
+put-at-requires : tie.Need-put-at-requires
+put-at-requires c κs = search needs
 
-loop-holds : tie.Need-loop-holds Inv-loop μ-loop
-loop-holds c = (c .pre, refl)
+add-result : tie.Need-add-result
+add-result c = search needs
 
-same-length : tie.Need-same-length Inv-loop μ-loop
-same-length c = c .before .before .loop .inv .1
+same-length : tie.Need-same-length
+same-length c = search needs
 
-returns : tie.Need-returns Inv-loop μ-loop
-returns c = c .before .before .loop .inv .0
+returns : tie.Need-returns
+returns c =
+    let t = c .before .before .before .before in
+    let s = t .before .before .before in
+    let line = now (s .args .line) in
+    let part = now (s .args .part) in
+    let l = t .if1 .taken in
+    (rw (c .before .before .put-at .ensures ∙ put-fits line part (s .args .kept) (omega (arith, l, s .pre))) (keeps-all line part (s .args .kept) (omega (arith, l, s .pre))), omega (arith, l, s .pre))
 
-shared-slice-read-line : tie.Need-shared-slice-read-line Inv-loop μ-loop
-shared-slice-read-line c = omega arith
+slice-aggregate-put-at : tie.Need-slice-aggregate-put-at
+slice-aggregate-put-at c = sym (length-take-le _ _ (omega (arith, c .before .before .if1 .left)))
 
-slice-write-line : tie.Need-slice-write-line Inv-loop μ-loop
-slice-write-line c = omega arith
+put-at-requires-2 : tie.Need-put-at-requires-2
+put-at-requires-2 c κs = search needs
 
-add-at : tie.Need-add-at Inv-loop μ-loop
-add-at c = omega (arith, c .before .before .before .before .good)
+same-length-2 : tie.Need-same-length-2
+same-length-2 c = search needs
 
-add-k : tie.Need-add-k Inv-loop μ-loop
-add-k c = omega (arith, c .before .before .before .before .good)
-
-loop-less : tie.Need-loop-less Inv-loop μ-loop
-loop-less c = omega arith
-
-loop-again : tie.Need-loop-again Inv-loop μ-loop
-loop-again c = (simp length-set (omega arith), simp length-set (c .before .before .before .loop .inv .1))
-
-same-length-2 : tie.Need-same-length-2 Inv-loop μ-loop
-same-length-2 c = c .before .loop .inv .1
-
-returns-2 : tie.Need-returns-2 Inv-loop μ-loop
-returns-2 c = c .before .loop .inv .0
+returns-2 : tie.Need-returns-2
+returns-2 c =
+    let t = c .before .before .before .before .before in
+    let s = t .before .before .before in
+    let line = now (s .args .line) in
+    let part = now (s .args .part) in
+    let k = s .args .kept in
+    let xs = take (length line - k) part in
+    let z = length-take-le (length line - k) part (omega (arith, t .if1 .left)) in
+    let e = c .before .before .put-at2 .ensures ∙ put-fits line xs k (omega (arith, z, s .pre)) in
+    rw (e, length-put line xs k (omega (arith, z, s .pre))) (keeps-some line part k (s .pre) (omega (arith, t .if1 .left)), omega arith)
 
 pub keep-spec : {M : Type 1} → statement M
 keep-spec =
     tie.close
     (tie.spec
-    Inv-loop
-    μ-loop
-    loop-holds
+    sub-room
+    put-at-requires
+    add-result
     same-length
     returns
-    shared-slice-read-line
-    slice-write-line
-    add-at
-    add-k
-    loop-less
-    loop-again
+    slice-aggregate-put-at
+    put-at-requires-2
     same-length-2
     returns-2)

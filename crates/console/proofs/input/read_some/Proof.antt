@@ -1,4 +1,6 @@
 -- `read_some` leaves the session ready for the next read.
+use mathlib.Core.Path.{_∙_}
+use native.Mathlib.Omega.{arith}
 use borrow.Author.Needs.{needs}
 use Rattle.console.proofs.input.read_some.Statement.{statement}
 use Rattle.console.proofs.input.read_some.Tie as tie
@@ -43,7 +45,19 @@ same-length-6 : tie.Need-same-length-6
 same-length-6 c = search needs
 
 returns-2 : tie.Need-returns-2
-returns-2 c = search needs
+returns-2 c =
+    let t = c .before .before .before .before .before .before .before .before in
+    let r = t .before .before .before .before .before .before .before .before .before .before .before .before .before .before .before .before .pre in
+    let e = t .take-part .ensures .1 in
+    let k = t .take-part .kept .1 .1 in
+    rw (c .write-out .ensures)
+    (record {
+      kept = omega (arith, e .0, k .0, r .line-room);
+      used = omega (arith, r .used, k .1 .1 .1 .0, t .before .before .before .before .before .before .before .before .before .before .before .read .kept .1 .0);
+      line-room = k .0 ∙ r .line-room;
+      v-room = k .1 .0 ∙ r .v-room;
+      i-room = k .1 .1 .0 ∙ r .i-room;
+    })
 
 pub read-some-spec : {M : Type 1} → statement M
 read-some-spec =

@@ -1,15 +1,16 @@
--- `run` reads to the end of the input.
-use borrow.Author.Needs.{needs}
-use mathlib.Core.Path.{_≡_, refl, _∙_}
+-- `run` reads to the end of the input, and answers a last line that lacks its line feed.
+use mathlib.Core.Path.{_≡_, refl, ap, _∙_}
 use native.Mathlib.Omega.{arith}
 use lib.ListN.{length}
+use Rattle.console.specs.declared.input.Session.{Session}
 use Rattle.console.specs.Session.{Ready}
 use Rattle.console.proofs.input.run.Statement.{statement}
 use Rattle.console.proofs.input.run.Tie as tie
 
 abbrev Inv-loop : tie.InvT-loop
 Inv-loop chunk₀ line₀ v₀ i₀ out₀ s₀ turns₀ chunk line v i out s turns =
-    Ready s line out × (length chunk ≡ length chunk₀) × (length line ≡ length line₀) × (length v ≡ length v₀) × (length i ≡ length i₀) × (length out ≡ length out₀)
+    Ready s line out v i (length chunk) × (length chunk ≡ length chunk₀) × (length line ≡ length line₀) × (length v ≡ length v₀) × (length i ≡ length i₀)
+    × (length out ≡ length out₀)
 
 abbrev μ-loop : tie.MeasureT-loop
 μ-loop chunk₀ line₀ v₀ i₀ out₀ s₀ turns₀ chunk line v i out s turns = turns
@@ -18,7 +19,22 @@ begun-requires : tie.Need-begun-requires Inv-loop μ-loop
 begun-requires c κs = tt
 
 loop-holds : tie.Need-loop-holds Inv-loop μ-loop
-loop-holds c = (record { kept = search needs; used = search needs; room = c .before .before .before .before .pre }, refl, refl, refl, refl, refl)
+loop-holds c =
+    let r = c .before .before .before .before .pre in
+    let e = c .begun .ensures in (
+      record {
+        kept = omega (arith, ap (λ (s : Session). s .kept) e);
+        used = omega (arith, ap (λ (s : Session). s .used) e, r .chunk-room, r .out-room);
+        line-room = r .line-room;
+        v-room = r .v-room;
+        i-room = r .i-room;
+      },
+      refl,
+      refl,
+      refl,
+      refl,
+      refl,
+    )
 
 read-some-requires : tie.Need-read-some-requires Inv-loop μ-loop
 read-some-requires c κs = c .before .before .before .before .before .before .loop .inv .0
@@ -31,24 +47,38 @@ loop-less c = omega arith
 
 loop-again : tie.Need-loop-again Inv-loop μ-loop
 loop-again c =
-    let k = c .before .before .before .before .before .before .before .before .before .before .read-some .kept in
+    let d = c .before .before .before .before .before .before .before .before .before .before .read-some in
+    let k = d .kept .1 in
     let i = c .before .before .before .before .before .before .before .before .before .before .before .before .before .before .before .before .before .loop .inv in
-    (c .before .before .before .before .before .before .before .before .before .before .read-some .ensures, k .1 .0 ∙ i .1, k .1 .1 .0 ∙ i .2, k .1 .1 .1 .0 ∙ i .3, k .1 .1 .1 .1 .0 ∙ i .4, k .1 .1 .1 .1 .1 .0 ∙ i .5)
+    (d .ensures, k .0 ∙ i .1, k .1 .0 ∙ i .2, k .1 .1 .0 ∙ i .3, k .1 .1 .1 .0 ∙ i .4, k .1 .1 .1 .1 .0 ∙ i .5)
 
 loop-less-2 : tie.Need-loop-less-2 Inv-loop μ-loop
 loop-less-2 c = omega arith
 
 loop-again-2 : tie.Need-loop-again-2 Inv-loop μ-loop
 loop-again-2 c =
-    let k = c .before .before .before .before .before .before .before .before .before .before .read-some .kept in
+    let d = c .before .before .before .before .before .before .before .before .before .before .read-some in
+    let k = d .kept .1 in
     let i = c .before .before .before .before .before .before .before .before .before .before .before .before .before .before .before .before .before .loop .inv in
-    (c .before .before .before .before .before .before .before .before .before .before .read-some .ensures, k .1 .0 ∙ i .1, k .1 .1 .0 ∙ i .2, k .1 .1 .1 .0 ∙ i .3, k .1 .1 .1 .1 .0 ∙ i .4, k .1 .1 .1 .1 .1 .0 ∙ i .5)
+    (d .ensures, k .0 ∙ i .1, k .1 .0 ∙ i .2, k .1 .1 .0 ∙ i .3, k .1 .1 .1 .0 ∙ i .4, k .1 .1 .1 .1 .0 ∙ i .5)
 
 end-line-requires : tie.Need-end-line-requires Inv-loop μ-loop
-end-line-requires c κs = c .before .before .before .before .before .loop .inv .0
+end-line-requires c κs =
+    let i = c .before .before .before .before .before .loop .inv in
+    let r = i .0 in
+    record {
+      kept = r .kept;
+      used = omega (arith, r .used, i .1, c .before .before .before .before .before .before .before .before .before .before .pre .chunk-room);
+      line-room = r .line-room;
+      v-room = r .v-room;
+      i-room = r .i-room;
+    }
 
 write-out-requires : tie.Need-write-out-requires Inv-loop μ-loop
-write-out-requires c κs = search needs
+write-out-requires c κs =
+    let e = c .before .before .before .before .before .end-line in
+    let i = c .before .before .before .before .before .before .before .before .before .before .before .loop .inv in
+    omega (arith, e .ensures .1 .1, i .0 .used, i .1, c .before .before .before .before .before .before .before .before .before .before .before .before .before .before .before .before .pre .chunk-room, e .kept .1 .1 .1 .1 .0)
 
 same-length : tie.Need-same-length Inv-loop μ-loop
 same-length c = c .before .before .before .before .before .before .before .before .before .before .before .before .loop .inv .1

@@ -1,6 +1,6 @@
 -- `value` tells what a text is worth as a number.
-use mathlib.Core.Path.{sym, ap, _∙_}
-use Rattle.console.specs.Numbers.{digitsOf, positive, negative, valueOf}
+use mathlib.Core.Path.{sym, _∙_}
+use Rattle.console.specs.Numbers.{valueOf}
 use Rattle.console.proofs.TextLaws.{begins-within, rest-of}
 use borrow.Author.Needs.{needs}
 use Rattle.console.proofs.numerals.value.Statement.{statement}

@@ -38,13 +38,17 @@ put-requires : tie.Need-put-requires
 put-requires c κs =
     let a = c .before .before in
     let s = a .before .before .before .before in
-    (omega (arith, length-take-le (a .answer-line .result) (a .answer-line .last .0) (within a), a .answer-line .ensures .2, s .pre), s .pre .1)
+    omega (arith, length-take-le (a .answer-line .result) (a .answer-line .last .0) (within a), a .answer-line .ensures .2, s .pre)
 
 same-length : tie.Need-same-length
 same-length c = search needs
 
 returns : tie.Need-returns
-returns c = rw (text (c .before .before .before .before .before)) at (c .before .before .put .ensures)
+returns c =
+    let p = c .before .before in
+    let a = p .before .before .before in
+    let e = rw (text a) at (p .put .ensures .0) in
+    (e, omega (arith, p .put .ensures .1, length-take-le (a .answer-line .result) (a .answer-line .last .0) (within a), a .answer-line .ensures .2))
 
 pub put-answer-spec : {M : Type 1} → statement M
 put-answer-spec =

@@ -1,19 +1,19 @@
--- `listing::first_line` meets its contract.
+-- `listing::put_first` meets its contract.
 use Prim.Native.Nat.{ℕ, _+_, _≤_}
-use mathlib.Core.Path.{_≡_, ap}
+use mathlib.Core.Path.{ap}
 use mathlib.Core.List.{List, [], _∷_, _++_}
 use native.Mathlib.Omega.{arith}
 use lib.ListN.{length, length-append}
 use denote.Ref.{now}
-use Rattle.serial.specs.Places.{put}
 use Rattle.book.specs.Book.{cards, withdrawn}
 use Rattle.section.specs.declared.Section.{Section}
 use Rattle.decimal.specs.Decimals.{decimal}
 use Rattle.listing.specs.Lines.{cardsWord, withdrawnWord, firstLine}
-use Rattle.listing.proofs.Lines.{made-first, made-more, made-whole, count-text, count-short}
+use Rattle.listing.specs.Buffer.{Made}
+use Rattle.listing.proofs.Lines.{made-more, count-text, count-short}
 use borrow.Author.Needs.{needs}
-use Rattle.listing.proofs.first_line.Statement.{statement}
-use Rattle.listing.proofs.first_line.Tie as tie
+use Rattle.listing.proofs.put_first.Statement.{statement}
+use Rattle.listing.proofs.put_first.Tie as tie
 
 cards-requires : tie.Need-cards-requires
 cards-requires c κs = search needs
@@ -44,33 +44,31 @@ withdrawn-short c = let n = c .withdrawn in rw (← ap (λ (s : Section). s .cou
 
 -- the two numbers as they stand in the line
 first-number : (c : tie.After-put-number)
-    → (c .put-number .result ≡ c .before .before .put-text .result + length (decimal (cards (book (c .before .before .before .before .before)) .count)))
-    × (c .put-number .last .0 ≡ put (c .before .before .put-text .last .0) (c .before .before .put-text .result) (decimal (cards (book (c .before .before .before .before .before)) .count)))
+    → Made (c .before .before .put-text .last .0) (c .put-number .last .0) (c .before .before .put-text .result) (c .put-number .result)
+    (decimal (cards (book (c .before .before .before .before .before)) .count))
 unfolding book
 first-number c =
     let n = c .before .before .before .before .before .before .cards in
-    let e = rw (count-text (n .result .count) (n .ensures .1), ap (λ (s : Section). s .count) (n .ensures .0)) at (c .put-number .ensures) in
-    (e .0, e .1)
+    rw (count-text (n .result .count) (n .ensures .1), ap (λ (s : Section). s .count) (n .ensures .0)) at (c .put-number .ensures .0)
 
 second-number : (c : tie.After-put-number2)
-    → (c .put-number2 .result ≡ c .before .before .put-text2 .result + length (decimal (withdrawn (book (c .before .before .before .before .before .before .before .before .before .before)) .count)))
-    × (c .put-number2 .last .0 ≡ put (c .before .before .put-text2 .last .0) (c .before .before .put-text2 .result) (decimal (withdrawn (book (c .before .before .before .before .before .before .before .before .before .before)) .count)))
+    → Made (c .before .before .put-text2 .last .0) (c .put-number2 .last .0) (c .before .before .put-text2 .result) (c .put-number2 .result)
+    (decimal (withdrawn (book (c .before .before .before .before .before .before .before .before .before .before)) .count))
 unfolding book
 second-number c =
     let n = c .before .before .before .before .before .before .before .before .before .before .withdrawn in
-    let e = rw (count-text (n .result .count) (n .ensures .1), ap (λ (s : Section). s .count) (n .ensures .0)) at (c .put-number2 .ensures) in
-    (e .0, e .1)
+    rw (count-text (n .result .count) (n .ensures .1), ap (λ (s : Section). s .count) (n .ensures .0)) at (c .put-number2 .ensures .0)
 
 put-number-requires : tie.Need-put-number-requires
 put-number-requires c κs =
     let n = c .before .before .before .before .before .cards in
-    rw (count-text (n .result .count) (n .ensures .1)) (omega (arith, c .before .put-text .ensures .0, count-short (n .result .count) (n .ensures .1)))
+    rw (count-text (n .result .count) (n .ensures .1)) (omega (arith, c .before .put-text .ensures .0 .place, count-short (n .result .count) (n .ensures .1)))
 
 slice-aggregate-put-text-2 : tie.Need-slice-aggregate-put-text-2
 slice-aggregate-put-text-2 c = search needs
 
 put-text-requires-2 : tie.Need-put-text-requires-2
-put-text-requires-2 c κs = omega (arith, first-number (c .before .before) .0, c .before .before .before .before .put-text .ensures .0, cards-short (c .before .before .before .before .before .before .before))
+put-text-requires-2 c κs = omega (arith, first-number (c .before .before) .place, c .before .before .before .before .put-text .ensures .0 .place, cards-short (c .before .before .before .before .before .before .before))
 
 cast-put-number-2 : tie.Need-cast-put-number-2
 cast-put-number-2 c = search needs
@@ -80,7 +78,7 @@ put-number-requires-2 c κs =
     let n = c .before .before .before .before in
     let w = n .before .before .before .before .before .withdrawn in
     rw (count-text (w .result .count) (w .ensures .1))
-    (omega (arith, c .before .put-text2 .ensures .0, first-number n .0, n .before .before .put-text .ensures .0, cards-short (n .before .before .before .before .before), count-short (w .result .count) (w .ensures .1)))
+    (omega (arith, c .before .put-text2 .ensures .0 .place, first-number n .place, n .before .before .put-text .ensures .0 .place, cards-short (n .before .before .before .before .before), count-short (w .result .count) (w .ensures .1)))
 
 slice-aggregate-put-text-3 : tie.Need-slice-aggregate-put-text-3
 slice-aggregate-put-text-3 c = search needs
@@ -89,7 +87,7 @@ put-text-requires-3 : tie.Need-put-text-requires-3
 put-text-requires-3 c κs =
     let m = c .before .before in
     let n = m .before .before .before .before .before in
-    omega (arith, second-number m .0, m .before .before .put-text2 .ensures .0, first-number n .0, n .before .before .put-text .ensures .0, cards-short (n .before .before .before .before .before), withdrawn-short (n .before .before .before .before .before))
+    omega (arith, second-number m .place, m .before .before .put-text2 .ensures .0 .place, first-number n .place, n .before .before .put-text .ensures .0 .place, cards-short (n .before .before .before .before .before), withdrawn-short (n .before .before .before .before .before))
 
 returns : tie.Need-returns
 unfolding firstLine cardsWord withdrawnWord book
@@ -98,29 +96,31 @@ returns c =
     let w = m .before .before in
     let n = w .before .before .before in
     let a = n .before .before in
-    let l = now (a .before .before .before .before .before .before .args .line) in
+    let l = now (a .before .before .before .before .before .before .args .out) in
     let b = book (a .before .before .before) in
     let x = decimal (cards b .count) in
     let y = decimal (withdrawn b .count) in
     let p = cards-short (a .before .before .before) in
     let q = withdrawn-short (a .before .before .before) in
     let e = a .put-text .ensures in
-    let f = w .put-text2 .ensures in
-    let g = c .put-text3 .ensures in
-    let z = e .2 in
-    made-whole l (c .put-text3 .last .0) (c .put-text3 .result) (cardsWord ++ x ++ withdrawnWord ++ y ++ (10 ∷ []))
-    (made-more l _ _ 0 (m .put-number2 .result) (c .put-text3 .result) (cardsWord ++ x ++ withdrawnWord ++ y) (10 ∷ [])
-    (made-more l _ _ 0 (w .put-text2 .result) (m .put-number2 .result) (cardsWord ++ x ++ withdrawnWord) y
-    (made-more l _ _ 0 (n .put-number .result) (w .put-text2 .result) (cardsWord ++ x) withdrawnWord
-    (made-more l _ _ 0 (a .put-text .result) (n .put-number .result) cardsWord x
-    (made-first l (a .put-text .last .0) 0 (a .put-text .result) cardsWord (e .0, e .1))
-    (first-number n) (omega (arith, z)))
-    (f .0, f .1) (omega (arith, z, length-append cardsWord x)))
-    (second-number m) (omega (arith, z, length-append cardsWord x, length-append (cardsWord ++ x) withdrawnWord)))
-    (g .0, g .1) (omega (arith, z, length-append cardsWord x, length-append (cardsWord ++ x) withdrawnWord, length-append (cardsWord ++ x ++ withdrawnWord) y)))
+    let f = w .put-text2 .ensures .0 in
+    let g = c .put-text3 .ensures .0 in
+    let z = e .1 in (
+      (
+        made-more l _ _ 0 (m .put-number2 .result) (c .put-text3 .result) (cardsWord ++ x ++ withdrawnWord ++ y) (10 ∷ [])
+            (made-more l _ _ 0 (w .put-text2 .result) (m .put-number2 .result) (cardsWord ++ x ++ withdrawnWord) y
+            (made-more l _ _ 0 (n .put-number .result) (w .put-text2 .result) (cardsWord ++ x) withdrawnWord
+            (made-more l _ _ 0 (a .put-text .result) (n .put-number .result) cardsWord x (e .0) (first-number n) (omega (arith, z)))
+            f (omega (arith, z, length-append cardsWord x)))
+            (second-number m) (omega (arith, z, length-append cardsWord x, length-append (cardsWord ++ x) withdrawnWord)))
+            g (omega (arith, z, length-append cardsWord x, length-append (cardsWord ++ x) withdrawnWord, length-append (cardsWord ++ x ++ withdrawnWord) y)),
+        omega (arith, g .place, second-number m .place, f .place, first-number n .place, e .0 .place),
+      ),
+      z,
+    )
 
-pub first-line-spec : {M : Type 1} → statement M
-first-line-spec =
+pub put-first-spec : {M : Type 1} → statement M
+put-first-spec =
     tie.close
     (tie.spec
     cards-requires
