@@ -16,6 +16,7 @@ use Rattle.card.specs.Fields.{fitsField, valuesFit}
 use Rattle.card.specs.Cards.{cardBytes, cardOf}
 use Rattle.serial.proofs.Serials.{length-bytes, bytes-hold}
 use Rattle.card.proofs.RoundTrip.{length-card, twelve-places, new-card, card-back}
+use Rattle.section.specs.declared.Kind.the-variants.{Cards, Serials}
 use Rattle.section.specs.Sections.{placeOf, endOf, entryAt, serialAt, entryOk, sectionOk, findIn, has}
 use Rattle.book.specs.Book.{cards, withdrawn, sized, Sized, wellFormed}
 use Rattle.book.specs.Answers.{Answer, accepted, ask}
@@ -114,7 +115,7 @@ module _ (old t : List ℕ) (f : List ℤ) (z : Sized old) (formed : wellFormed 
       serial-first new (cards new) (cards old .count) (omega arith) ∙ ap (take 13) entry
       ∙ lib.Seq.take-at (serialBytes (serialOf t)) _ 13 (length-bytes t tok)
 
-  card-fits : entryOk 37 (entryAt new (cards new) (cards old .count)) ≡ true
+  card-fits : entryOk Cards (entryAt new (cards new) (cards old .count)) ≡ true
   unfolding entryOk x
   card-fits = rw entry (new-card t f tok eight values)
 
@@ -212,7 +213,7 @@ module _ (old t : List ℕ) (z : Sized old) (formed : wellFormed old ≡ true) (
       serial-first after (withdrawn after) (withdrawn old .count) (omega arith) ∙ ap (take 13) last
       ∙ lib.Seq.take-all 13 (serialBytes (serialOf t)) (omega (arith, length-bytes t tok))
 
-  serial-fits : entryOk 13 (entryAt after (withdrawn after) (withdrawn old .count)) ≡ true
+  serial-fits : entryOk Serials (entryAt after (withdrawn after) (withdrawn old .count)) ≡ true
   unfolding entryOk y
   serial-fits = rw last (bytes-hold t tok (serialBytes (serialOf t)) (λ k l. refl))
 
