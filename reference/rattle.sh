@@ -44,3 +44,22 @@ run_program() { # NAME ARGUMENTS..
     shift
     ${emulator:+"$emulator"} "$kit/lib/ld-linux-x86-64.so.2" --library-path "$kit/lib" "$root/target/bin/$name" "$@"
 }
+
+# The C compiler for x86-64 is the machine's own there, and elsewhere a cross compiler. Sets compiler; without one it is empty.
+find_x86_compiler() {
+    if [ "$(uname -m)" = x86_64 ]; then
+        compiler=$(command -v "${CC:-cc}" || command -v gcc || command -v clang)
+    else
+        compiler=$(command -v x86_64-linux-gnu-gcc)
+    fi
+    compiler=${compiler:-}
+}
+
+# Proves and compiles the library for C, and links a C program with it.
+build_stock() { # PROGRAM SOURCES..
+    local program=$1
+    shift
+    mkdir -p "$root/target"
+    (cd "$root" && rt staticlib stock) >"$root/target/staticlib.log" 2>&1 || { cat "$root/target/staticlib.log" >&2; exit 2; }
+    "$compiler" -std=c11 -O2 -Wall -Wextra -Werror -pedantic -static -I"$root/include" "$@" "$root/target/staticlib/libstock.a" -o "$program" || exit 2
+}
