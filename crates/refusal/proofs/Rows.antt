@@ -6,9 +6,9 @@ use mathlib.Core.List.{List, [], _∷_}
 use native.Mathlib.Omega.{arith}
 use lib.Dec.{leb, eqb}
 use lib.ListN.{length, take, drop, getD, List·getD-eq-default}
-use borrow.Author.Tests.{leb-true, le-leb, lt-leb, eqb-true}
+use borrow.Author.Tests.{leb-true, leb-false, le-leb, lt-leb, eqb-true}
 use Rattle.serial.specs.Every.{every}
-use Rattle.serial.specs.Places.{part, putWithin}
+use Rattle.serial.specs.Places.{part, putWithin, tab}
 use Rattle.serial.proofs.Every.{and-left, and-right, every-at}
 use Rattle.serial.proofs.Places.{lent, put-none, put-fits}
 use Rattle.refusal.specs.Ascii.{ascii}
@@ -55,6 +55,23 @@ length-is lengths all n l =
 pub no-words : (n : ℕ) → 21 < n → wordsOf n ≡ []
 unfolding wordsOf table ascii
 no-words n l = ap ascii (List·getD-eq-default table "" {n = n} (omega arith))
+
+checked : every (lengthOk (tab (λ (k : ℕ). length (wordsOf k)) 22)) 22 ≡ true
+unfolding every lengthOk tab wordsOf table ascii
+checked = refl
+
+-- none has more than forty bytes
+pub words-short : (n : ℕ) → length (wordsOf n) ≤ 40
+words-short n = by (leb 22 n) refl
+  where
+    all : every (lengthOk (tab (λ (k : ℕ). length (wordsOf k)) 22)) 22 ≡ true
+    all = checked
+
+    by : (t : Bool) → leb 22 n ≡ t → length (wordsOf n) ≤ 40
+    by true e = rw (no-words n (leb-true 22 n e)) (omega arith)
+    by false e =
+        let h = length-is (tab (λ (k : ℕ). length (wordsOf k)) 22) all n (leb-false 22 n e) in
+        rw (h .0) at (h .1)
 
 -- ---- what is written
 pub written-all : (t : List ℕ) (room : ℕ) → length t ≤ room → writtenOf t room ≡ length t

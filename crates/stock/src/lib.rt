@@ -1,5 +1,5 @@
 // What the bench computer's stock program calls from C. Each function gives one signed number: the place of a card's first byte, the new length, or a refusal's number negated.
-mod read;
+pub mod read;
 
 use book::Found;
 use change::Changed;
