@@ -153,8 +153,13 @@ static void add(struct text rest)
 static void list(void)
 {
     uint8_t digits[STOCK_SERIAL_DIGITS];
+    int64_t answer = stock_check(buffer, used);
     size_t at;
 
+    if (STOCK_REFUSED(answer)) {
+        refused(answer);
+        return;
+    }
     for (size_t k = 0; (at = stock_card(buffer, used, k)) != 0; k++)
         print_card(at);
     for (size_t k = 0; (at = stock_withdrawn(buffer, used, k)) != 0; k++) {

@@ -55,11 +55,13 @@ find_x86_compiler() {
     compiler=${compiler:-}
 }
 
-# Proves and compiles the library for C, and links a C program with it.
+# Proves and compiles the library for C, where that is not done yet, and links a C program with it.
 build_stock() { # PROGRAM SOURCES..
-    local program=$1
+    local program=$1 archive=$root/target/staticlib/libstock.a log=$root/target/staticlib.log
     shift
     mkdir -p "$root/target"
-    (cd "$root" && rt staticlib stock) >"$root/target/staticlib.log" 2>&1 || { cat "$root/target/staticlib.log" >&2; exit 2; }
-    "$compiler" -std=c11 -O2 -Wall -Wextra -Werror -pedantic -static -I"$root/include" "$@" "$root/target/staticlib/libstock.a" -o "$program" || exit 2
+    if [ ! -f "$archive" ] || [ -n "$(find "$root/crates" "$root/crates.txt" -newer "$archive" -print -quit)" ]; then
+        (cd "$root" && rt staticlib stock) >"$log" 2>&1 || { cat "$log" >&2; exit 2; }
+    fi
+    "$compiler" -std=c11 -O2 -Wall -Wextra -Werror -pedantic -static -I"$root/include" "$@" "$archive" -o "$program" || exit 2
 }
