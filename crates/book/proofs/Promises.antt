@@ -27,12 +27,12 @@ use Rattle.section.proofs.Sections.{same-self, same-is, serial-first, section-l
 
 -- ---- a card and its first 13 bytes
 -- the text is that of the first 13 bytes
-text-first : (e : List ℕ) → getD e 0 0 ≤ 12 → textOf (take 13 e) ≡ textOf e
+pub text-first : (e : List ℕ) → getD e 0 0 ≤ 12 → textOf (take 13 e) ≡ textOf e
 unfolding textOf
 text-first [] l = refl
 text-first (x ∷ xs) l = take-take x 12 xs l
 
-holds-first : (e : List ℕ) → holdsSerial (take 13 e) ≡ holdsSerial e
+pub holds-first : (e : List ℕ) → holdsSerial (take 13 e) ≡ holdsSerial e
 unfolding holdsSerial
 holds-first e =
     let n : getD (take 13 e) 0 0 ≡ getD e 0 0 = getD-take 13 e 0 0 (omega arith) in

@@ -3,6 +3,7 @@ use Prim.Native.Nat.{ℕ, _+_, _-_, _*_, _≤_, _<_}
 use mathlib.Core.Path.{_≡_, refl, sym, ap, _∙_}
 use mathlib.Core.Bool.{Bool, true, false, not, _&&_}
 use mathlib.Core.List.{List, []}
+use native.Mathlib.Nat.{add-zero}
 use native.Mathlib.Omega.{arith}
 use lib.IntN.{ℤ, pos}
 use lib.ListN.{length, getD, take}
@@ -171,6 +172,8 @@ module _ (old t : List ℕ) (f : List ℤ) (z : Sized old) (formed : wellFormed 
         fields = λ kept. ap cardOf (bytes kept) ∙ card-back (serialOf t) f (twelve-places t tok) eight values;
         still = λ w. simp (tok, fine, w-has t ∙ w);
         others = record { answer = answers; card = λ u ne. part-same old new u (answers u ne) agree };
+        cards-kept = record { each = agree; count = count };
+        withdrawn-kept = record { each = others-agree; count = w-count ∙ sym (add-zero (withdrawn old .count)) };
       }
 
 -- ---- one withdrawn serial more
@@ -240,6 +243,9 @@ module _ (old t : List ℕ) (z : Sized old) (formed : wellFormed old ≡ true) (
         formed = kept-fine;
         gone = simp (tok, kept-fine, G.grown-has old after (withdrawn old) (withdrawn after) (withdrawn-lie old z) (withdrawn-lie after sized-then) refl serials-agree more t tok none own);
         others = record { answer = left; card = λ u ne. part-same old after u (left u ne) cards-stay };
+        cards-kept = record { each = cards-stay; count = stay-count ∙ sym (add-zero (cards old .count)) };
+        withdrawn-kept = record { each = serials-agree; count = more };
+        last = last;
       }
 
 -- ---- as the contracts say it: the first bytes of the buffer, by the answer
