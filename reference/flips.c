@@ -1,4 +1,5 @@
-/* flips.c: the program reference-flips: of the book on standard input, how many of all single flipped bits still give a well-formed book. */
+/* flips.c: the program reference-flips: of the book on standard input, how many of all single flipped bits still give a
+ * well-formed book. */
 #include <stdio.h>
 
 #include "book.h"

@@ -1,13 +1,15 @@
-/* make-orders.c: the program make-orders: prints orders for the stock program, most of them accepted, on a book that begins empty,
- * small, damaged or nearly full. */
+/* make-orders.c: the program make-orders: prints orders for the stock program, most of them accepted, on a book that
+ * begins empty, small, damaged or nearly full. */
 #include <stdio.h>
 #include <string.h>
 
 #include "random.h"
 
 /* Labels that are nearly alike, and some that are none. */
-static const char *const label[] = {"417", "0417", "00417", "4170", "41", "4", "17", "0", "00", "123456789012", "12345678901"};
-static const char *const bad_label[] = {"1234567890123", "04 17", "4x7", "", " 417", "417 ", "-417", "+417", "0x417", "4.17", "\xB2\xB3", "417\t", "417\r"};
+static const char *const label[] = {"417", "0417", "00417", "4170",         "41",         "4",
+                                    "17",  "0",    "00",    "123456789012", "12345678901"};
+static const char *const bad_label[] = {"1234567890123", "04 17", "4x7",  "",         " 417",  "417 ", "-417",
+                                        "+417",          "0x417", "4.17", "\xB2\xB3", "417\t", "417\r"};
 
 static void print_label(void)
 {
@@ -92,7 +94,9 @@ static void edge_of_room(void)
 
 static void odd_line(void)
 {
-    static const char *const line[] = {"", "find", "finds 417", " find 417", "withdraw", "add", "add 417", "list 1", "check 1", "room", "room x", "room 1 2", "book 0", "book 0g", "book 00 00", "bytes 1", "FIND 417"};
+    static const char *const line[] = {"",        "find",    "finds 417",  " find 417", "withdraw", "add",
+                                       "add 417", "list 1",  "check 1",    "room",      "room x",   "room 1 2",
+                                       "book 0",  "book 0g", "book 00 00", "bytes 1",   "FIND 417"};
 
     if (chance(85)) {
         puts(line[draw(sizeof line / sizeof line[0])]);

@@ -1,5 +1,5 @@
-/* stock.c: the program reference-stock: does the orders that the head of examples/stock.c lists, a line each. Of a refusal it prints
- * the number alone. */
+/* stock.c: the program reference-stock: does the orders that the head of examples/stock.c lists, a line each. Of a
+ * refusal it prints the number alone. */
 #include <inttypes.h>
 #include <stdio.h>
 #include <string.h>
@@ -243,7 +243,8 @@ static void set_book(const char *at, const char *end)
         }
     memset(bytes, 0xEE, sizeof bytes);
     for (used = 0; used < pairs; used++)
-        bytes[used] = (unsigned char)(16 * (strchr(digits, at[1 + 2 * used]) - digits) + (strchr(digits, at[2 + 2 * used]) - digits));
+        bytes[used] = (unsigned char)(16 * (strchr(digits, at[1 + 2 * used]) - digits) +
+                                      (strchr(digits, at[2 + 2 * used]) - digits));
 }
 
 static void print_bytes(void)
