@@ -44,3 +44,24 @@ run_program() { # NAME ARGUMENTS..
     shift
     ${emulator:+"$emulator"} "$kit/lib/ld-linux-x86-64.so.2" --library-path "$kit/lib" "$root/target/bin/$name" "$@"
 }
+
+# The C compiler for x86-64 is the machine's own there, and elsewhere a cross compiler. Sets compiler; without one it is empty.
+find_x86_compiler() {
+    if [ "$(uname -m)" = x86_64 ]; then
+        compiler=$(command -v "${CC:-cc}" || command -v gcc || command -v clang)
+    else
+        compiler=$(command -v x86_64-linux-gnu-gcc)
+    fi
+    compiler=${compiler:-}
+}
+
+# Proves and compiles the library for C, where that is not done yet, and links a C program with it.
+build_stock() { # PROGRAM SOURCES..
+    local program=$1 archive=$root/target/staticlib/libstock.a log=$root/target/staticlib.log
+    shift
+    mkdir -p "$root/target"
+    if [ ! -f "$archive" ] || [ -n "$(find "$root/crates" "$root/crates.txt" -newer "$archive" -print -quit)" ]; then
+        (cd "$root" && rt staticlib stock) >"$log" 2>&1 || { cat "$log" >&2; exit 2; }
+    fi
+    "$compiler" -std=c11 -O2 -Wall -Wextra -Werror -pedantic -static -I"$root/include" "$@" "$archive" -o "$program" || exit 2
+}

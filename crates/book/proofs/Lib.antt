@@ -3,3 +3,4 @@ pub mod Sections
 pub mod Answers
 pub mod Promises
 pub mod Decided
+pub mod Stands

@@ -15,6 +15,7 @@ use Rattle.serial.proofs.Places.{length-part}
 use Rattle.serial.specs.Serials.{isSerial, serialOf, serialBytes, placeOk, holdsSerial, textOf}
 use Rattle.card.specs.Cards.{fieldsOk}
 use Rattle.serial.proofs.Serials.{length-bytes, byte-length, serial-short, text-back, text-serial, bytes-back}
+use Rattle.section.specs.declared.Kind.the-variants.{Cards}
 use Rattle.section.specs.Sections.{placeOf, entryAt, serialAt, entryOk, entriesOk, same, fresh, distinct, sectionOk, firstOf, findIn, has}
 use Rattle.book.specs.Book.{cards, withdrawn, sized, Sized, wellFormed}
 use Rattle.book.specs.Answers.{accepted}
@@ -26,12 +27,12 @@ use Rattle.section.proofs.Sections.{same-self, same-is, serial-first, section-l
 
 -- ---- a card and its first 13 bytes
 -- the text is that of the first 13 bytes
-text-first : (e : List ℕ) → getD e 0 0 ≤ 12 → textOf (take 13 e) ≡ textOf e
+pub text-first : (e : List ℕ) → getD e 0 0 ≤ 12 → textOf (take 13 e) ≡ textOf e
 unfolding textOf
 text-first [] l = refl
 text-first (x ∷ xs) l = take-take x 12 xs l
 
-holds-first : (e : List ℕ) → holdsSerial (take 13 e) ≡ holdsSerial e
+pub holds-first : (e : List ℕ) → holdsSerial (take 13 e) ≡ holdsSerial e
 unfolding holdsSerial
 holds-first e =
     let n : getD (take 13 e) 0 0 ≡ getD e 0 0 = getD-take 13 e 0 0 (omega arith) in
@@ -88,7 +89,7 @@ module _ (b : List ℕ) (k : ℕ) (formed : wellFormed b ≡ true) (l : k < card
   holds : holdsSerial e ≡ true
   unfolding entriesOk entryOk e
   holds =
-      let c = every-at (λ (k : ℕ). entryOk 37 (entryAt b (cards b) k)) (cards b .count) (and-left (entriesOk b (cards b)) (distinct b (cards b)) fine) k l in
+      let c = every-at (λ (k : ℕ). entryOk Cards (entryAt b (cards b) k)) (cards b .count) (and-left (entriesOk b (cards b)) (distinct b (cards b)) fine) k l in
       and-right (eqb (length (entryAt b (cards b) k)) 37) (holdsSerial (entryAt b (cards b) k)) (and-left (eqb (length (entryAt b (cards b) k)) 37 && holdsSerial (entryAt b (cards b) k)) (fieldsOk (entryAt b (cards b) k)) c)
 
   thirteen : length (take 13 e) ≡ 13

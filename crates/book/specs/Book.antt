@@ -6,6 +6,7 @@ use mathlib.Core.List.{List}
 use lib.ListN.{length, getD}
 use lib.Dec.{leb, eqb}
 use Rattle.section.specs.Sections.{endOf, sectionOk}
+use Rattle.section.specs.declared.Kind.the-variants.{Cards, Serials}
 use Rattle.section.specs.declared.Section.{Section}
 
 -- a count: two bytes, low byte first
@@ -14,11 +15,11 @@ countAt b at = getD b at 0 + 256 * getD b (at + 1) 0
 
 -- the cards, 37 bytes each
 abbrev pub cards : List ℕ → Section
-cards b = record { base = 2; size = 37; count = countAt b 0 }
+cards b = record { kind = Cards; base = 2; size = 37; count = countAt b 0 }
 
 -- the withdrawn serials, 13 bytes each
 abbrev pub withdrawn : List ℕ → Section
-withdrawn b = record { base = endOf (cards b) + 2; size = 13; count = countAt b (endOf (cards b)) }
+withdrawn b = record { kind = Serials; base = endOf (cards b) + 2; size = 13; count = countAt b (endOf (cards b)) }
 
 -- a book of the right size: at most 1,024 cards and 512 withdrawn serials, and the book ends after them
 pub record Sized (b : List ℕ) : Type 0 where

@@ -1,4 +1,5 @@
 // The card book on lent bytes: its two sections, the check, and lookup.
+use section::Kind;
 use section::Section;
 ghost use mathlib.Core.Path.{_≡_};
 ghost use Prim.Native.Nat.{_+_, _≤_};
@@ -30,6 +31,7 @@ pub fn cards(b: &[u8]) -> Section
     ensures { λ r. ⌜ (r ≡ cards (now (b .entry))) × (r .count ≤ 65535) ⌝ }
 {
     Section {
+        kind: Kind::Cards,
         base: 2,
         size: 37,
         count: count_at(b, 0),
@@ -38,10 +40,11 @@ pub fn cards(b: &[u8]) -> Section
 
 // The withdrawn serials of a book.
 pub fn withdrawn(b: &[u8]) -> Section
-    ensures { λ r. ⌜ (r ≡ withdrawn (now (b .entry))) × (r .count ≤ 65535) × (r .base ≤ 2424799) ⌝ }
+    ensures { λ r. ⌜ (r ≡ withdrawn (now (b .entry))) × (r .count ≤ 65535) ⌝ }
 {
     let end = 2 + count_at(b, 0) * 37;
     Section {
+        kind: Kind::Serials,
         base: end + 2,
         size: 13,
         count: count_at(b, end),

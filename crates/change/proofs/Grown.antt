@@ -14,15 +14,16 @@ use Rattle.serial.specs.Serials.{isSerial, serialOf, serialBytes}
 use Rattle.serial.proofs.Serials.{length-bytes, one-text}
 use Rattle.section.specs.Sections.{Lies, entryAt, serialAt, entryOk, entriesOk, same, fresh, distinct, sectionOk, firstOf, findIn, has}
 use Rattle.section.proofs.Sections.{same-self, same-is, serial-first, section-lies, find-lies}
+use Rattle.section.specs.declared.Kind.{Kind}
 use Rattle.section.specs.declared.Section.{Section}
 
-module _ (old new : List ℕ) (s s′ : Section) (lie : Lies old s) (lie′ : Lies new s′) (size : s′ .size ≡ s .size) (agree : (k : ℕ) → k < s .count → entryAt new s′ k ≡ entryAt old s k) where
+module _ (old new : List ℕ) (s s′ : Section) (lie : Lies old s) (lie′ : Lies new s′) (kind : s′ .kind ≡ s .kind) (agree : (k : ℕ) → k < s .count → entryAt new s′ k ≡ entryAt old s k) where
   serials : (k : ℕ) → k < s .count → serialAt new s′ k ≡ serialAt old s k
   serials k l = serial-first new s′ k (lie′ .wide) ∙ ap (take 13) (agree k l) ∙ sym (serial-first old s k (lie .wide))
 
-  entries-same : every (λ (k : ℕ). entryOk (s′ .size) (entryAt new s′ k)) (s .count) ≡ entriesOk old s
+  entries-same : every (λ (k : ℕ). entryOk (s′ .kind) (entryAt new s′ k)) (s .count) ≡ entriesOk old s
   unfolding entriesOk
-  entries-same = every-same _ _ (s .count) (λ k l. ap (λ (n : ℕ). entryOk n (entryAt new s′ k)) size ∙ ap (entryOk (s .size)) (agree k l))
+  entries-same = every-same _ _ (s .count) (λ k l. ap (λ (n : Kind). entryOk n (entryAt new s′ k)) kind ∙ ap (entryOk (s .kind)) (agree k l))
 
   distinct-same : every (fresh new s′) (s .count) ≡ distinct old s
   unfolding distinct fresh
@@ -38,7 +39,7 @@ module _ (old new : List ℕ) (s s′ : Section) (lie : Lies old s) (lie′ : Li
     unfolding entriesOk distinct
     moved-section =
         section-lies new s′ lie′
-        ∙ ap (λ (n : ℕ). every (λ (k : ℕ). entryOk (s′ .size) (entryAt new s′ k)) n && every (fresh new s′) n) count
+        ∙ ap (λ (n : ℕ). every (λ (k : ℕ). entryOk (s′ .kind) (entryAt new s′ k)) n && every (fresh new s′) n) count
         ∙ ap (λ (a : Bool). a && every (fresh new s′) (s .count)) entries-same
         ∙ ap (λ (a : Bool). entriesOk old s && a) distinct-same
         ∙ sym (section-lies old s lie)
@@ -66,13 +67,13 @@ module _ (old new : List ℕ) (s s′ : Section) (lie : Lies old s) (lie′ : Li
     unfolding fresh
     fresh-last = every-from _ (s .count) (λ i l. ap not (ap (λ (y : List ℕ). same (serialAt new s′ i) y) mine ∙ ap (λ (y : List ℕ). same y (serialBytes (serialOf t))) (serials i l) ∙ not-there i l))
 
-    pub grown-section : entryOk (s .size) (entryAt new s′ (s .count)) ≡ true → sectionOk old s ≡ true → sectionOk new s′ ≡ true
+    pub grown-section : entryOk (s .kind) (entryAt new s′ (s .count)) ≡ true → sectionOk old s ≡ true → sectionOk new s′ ≡ true
     unfolding entriesOk distinct
     grown-section fit f =
         let h = sym (section-lies old s lie) ∙ f in
         section-lies new s′ lie′
-        ∙ ap (λ (n : ℕ). every (λ (k : ℕ). entryOk (s′ .size) (entryAt new s′ k)) n && every (fresh new s′) n) count
-        ∙ both (every-more _ (s .count) (entries-same ∙ and-left (entriesOk old s) (distinct old s) h) (ap (λ (n : ℕ). entryOk n (entryAt new s′ (s .count))) size ∙ fit))
+        ∙ ap (λ (n : ℕ). every (λ (k : ℕ). entryOk (s′ .kind) (entryAt new s′ k)) n && every (fresh new s′) n) count
+        ∙ both (every-more _ (s .count) (entries-same ∙ and-left (entriesOk old s) (distinct old s) h) (ap (λ (n : Kind). entryOk n (entryAt new s′ (s .count))) kind ∙ fit))
         (every-more (fresh new s′) (s .count) (distinct-same ∙ and-right (entriesOk old s) (distinct old s) h) fresh-last)
 
     -- its serial is found there

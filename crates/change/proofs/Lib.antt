@@ -5,3 +5,4 @@ pub mod Grown
 pub mod Changes
 pub mod Promises
 pub mod Decided
+pub mod Present

@@ -3,6 +3,7 @@ use Prim.Native.Nat.{ℕ, _+_, _-_, _*_, _≤_, _<_}
 use mathlib.Core.Path.{_≡_, refl, sym, ap, _∙_}
 use mathlib.Core.Bool.{Bool, true, false, not, _&&_}
 use mathlib.Core.List.{List, []}
+use native.Mathlib.Nat.{add-zero}
 use native.Mathlib.Omega.{arith}
 use lib.IntN.{ℤ, pos}
 use lib.ListN.{length, getD, take}
@@ -16,6 +17,7 @@ use Rattle.card.specs.Fields.{fitsField, valuesFit}
 use Rattle.card.specs.Cards.{cardBytes, cardOf}
 use Rattle.serial.proofs.Serials.{length-bytes, bytes-hold}
 use Rattle.card.proofs.RoundTrip.{length-card, twelve-places, new-card, card-back}
+use Rattle.section.specs.declared.Kind.the-variants.{Cards, Serials}
 use Rattle.section.specs.Sections.{placeOf, endOf, entryAt, serialAt, entryOk, sectionOk, findIn, has}
 use Rattle.book.specs.Book.{cards, withdrawn, sized, Sized, wellFormed}
 use Rattle.book.specs.Answers.{Answer, accepted, ask}
@@ -114,7 +116,7 @@ module _ (old t : List ℕ) (f : List ℤ) (z : Sized old) (formed : wellFormed 
       serial-first new (cards new) (cards old .count) (omega arith) ∙ ap (take 13) entry
       ∙ lib.Seq.take-at (serialBytes (serialOf t)) _ 13 (length-bytes t tok)
 
-  card-fits : entryOk 37 (entryAt new (cards new) (cards old .count)) ≡ true
+  card-fits : entryOk Cards (entryAt new (cards new) (cards old .count)) ≡ true
   unfolding entryOk x
   card-fits = rw entry (new-card t f tok eight values)
 
@@ -170,6 +172,8 @@ module _ (old t : List ℕ) (f : List ℤ) (z : Sized old) (formed : wellFormed 
         fields = λ kept. ap cardOf (bytes kept) ∙ card-back (serialOf t) f (twelve-places t tok) eight values;
         still = λ w. simp (tok, fine, w-has t ∙ w);
         others = record { answer = answers; card = λ u ne. part-same old new u (answers u ne) agree };
+        cards-kept = record { each = agree; count = count };
+        withdrawn-kept = record { each = others-agree; count = w-count ∙ sym (add-zero (withdrawn old .count)) };
       }
 
 -- ---- one withdrawn serial more
@@ -212,7 +216,7 @@ module _ (old t : List ℕ) (z : Sized old) (formed : wellFormed old ≡ true) (
       serial-first after (withdrawn after) (withdrawn old .count) (omega arith) ∙ ap (take 13) last
       ∙ lib.Seq.take-all 13 (serialBytes (serialOf t)) (omega (arith, length-bytes t tok))
 
-  serial-fits : entryOk 13 (entryAt after (withdrawn after) (withdrawn old .count)) ≡ true
+  serial-fits : entryOk Serials (entryAt after (withdrawn after) (withdrawn old .count)) ≡ true
   unfolding entryOk y
   serial-fits = rw last (bytes-hold t tok (serialBytes (serialOf t)) (λ k l. refl))
 
@@ -239,6 +243,9 @@ module _ (old t : List ℕ) (z : Sized old) (formed : wellFormed old ≡ true) (
         formed = kept-fine;
         gone = simp (tok, kept-fine, G.grown-has old after (withdrawn old) (withdrawn after) (withdrawn-lie old z) (withdrawn-lie after sized-then) refl serials-agree more t tok none own);
         others = record { answer = left; card = λ u ne. part-same old after u (left u ne) cards-stay };
+        cards-kept = record { each = cards-stay; count = stay-count ∙ sym (add-zero (cards old .count)) };
+        withdrawn-kept = record { each = serials-agree; count = more };
+        last = last;
       }
 
 -- ---- as the contracts say it: the first bytes of the buffer, by the answer

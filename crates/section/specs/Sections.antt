@@ -8,6 +8,8 @@ use Rattle.serial.specs.Every.{every, first}
 use Rattle.serial.specs.Places.{part}
 use Rattle.serial.specs.Serials.{serialOf, serialBytes, holdsSerial}
 use Rattle.card.specs.Cards.{isCard}
+use Rattle.section.specs.declared.Kind.{Kind}
+use Rattle.section.specs.declared.Kind.the-variants.{Cards, Serials}
 use Rattle.section.specs.declared.Section.{Section}
 
 -- the place of entry k, from 0
@@ -34,13 +36,14 @@ entryAt b s k = part b (placeOf s k) (s .size)
 unfoldable pub serialAt : List ℕ → Section → ℕ → List ℕ
 serialAt b s k = part b (placeOf s k) 13
 
--- ---- what every entry must be: a card where it has 37 bytes, and else a serial
-unfoldable pub entryOk : ℕ → List ℕ → Bool
-entryOk size e = cond (eqb size 37) (isCard e) (holdsSerial e)
+-- ---- what every entry must be: a card, or a serial
+unfoldable pub entryOk : Kind → List ℕ → Bool
+entryOk Cards e = isCard e
+entryOk Serials e = holdsSerial e
 
 -- each entry of the section is such a one
 unfoldable pub entriesOk : List ℕ → Section → Bool
-entriesOk b s = every (λ (k : ℕ). entryOk (s .size) (entryAt b s k)) (s .count)
+entriesOk b s = every (λ (k : ℕ). entryOk (s .kind) (entryAt b s k)) (s .count)
 
 -- ---- no serial twice
 -- two serials are the same: all 13 bytes, the length and every digit
@@ -71,3 +74,7 @@ findIn b s t = cond (lies b s) (firstOf b s (serialBytes (serialOf t))) (s .coun
 -- the serial t stands in the section
 unfoldable pub has : List ℕ → Section → List ℕ → Bool
 has b s t = ltb (findIn b s t) (s .count)
+
+-- ---- the walk: the place of entry k, and 0, where no entry is, past the last or in a section that does not lie in the bytes
+unfoldable pub placeIn : List ℕ → Section → ℕ → ℕ
+placeIn b s k = cond (lies b s && ltb k (s .count)) (placeOf s k) 0

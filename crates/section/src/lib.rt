@@ -3,10 +3,17 @@ ghost use mathlib.Core.Path.{_≡_};
 ghost use Prim.Native.Nat.{_+_, _*_, _-_, _≤_, _<_};
 ghost use lib.ListN.{length};
 ghost use Rattle.serial.specs.Places.{part};
-ghost use Rattle.section.specs.Sections.{Lies, lies, entryOk, entriesOk, same, distinct, sectionOk, firstOf, findIn, has};
+ghost use Rattle.section.specs.Sections.{Lies, lies, entryOk, entriesOk, same, distinct, sectionOk, firstOf, findIn, has, placeIn};
 
-// A section: where its first entry begins, how many bytes an entry has, and how many entries there are.
+// What the entries of a section are: cards, or serials alone.
+pub enum Kind {
+    Cards,
+    Serials,
+}
+
+// A section: what its entries are, where its first entry begins, how many bytes an entry has, and how many entries there are.
 pub struct Section {
+    pub kind: Kind,
     pub base: usize,
     pub size: usize,
     pub count: usize,
@@ -26,13 +33,12 @@ fn lies(b: &[u8], s: Section) -> bool
     s.count <= (len - s.base) / s.size
 }
 
-fn entry_ok(e: &[u8], size: usize) -> bool
-    ensures { λ r. ⌜ r ≡ entryOk size (now (e .entry)) ⌝ }
+fn entry_ok(e: &[u8], kind: Kind) -> bool
+    ensures { λ r. ⌜ r ≡ entryOk kind (now (e .entry)) ⌝ }
 {
-    if size == 37 {
-        card::is_card(e)
-    } else {
-        serial::holds_serial(e)
+    match kind {
+        Kind::Cards => card::is_card(e),
+        Kind::Serials => serial::holds_serial(e),
     }
 }
 
@@ -41,6 +47,7 @@ fn entries_ok(b: &[u8], s: Section) -> bool
     requires { ⌜ Lies (now b) s ⌝ }
     ensures { λ r. ⌜ r ≡ entriesOk (now (b .entry)) s ⌝ }
 {
+    let kind = s.kind;
     let base = s.base;
     let size = s.size;
     let n = s.count;
@@ -49,7 +56,7 @@ fn entries_ok(b: &[u8], s: Section) -> bool
     while k < n {
         let at = base + k * size;
         let end = at + size;
-        ok = ok & entry_ok(&b[at..end], size);
+        ok = ok & entry_ok(&b[at..end], kind);
         k += 1;
     }
     ok
@@ -141,6 +148,19 @@ pub fn find(b: &[u8], s: Section, text: &[u8]) -> usize
     }
     let key = serial::Serial::of(text).bytes();
     first_of(b, s, &key)
+}
+
+// The place of entry k, from 0; 0 where there is no such entry in the bytes, which is the place of none.
+pub fn place(b: &[u8], s: Section, k: usize) -> usize
+    ensures { λ r. ⌜ r ≡ placeIn (now (b .entry)) s k ⌝ }
+{
+    if !lies(b, s) {
+        return 0;
+    }
+    if s.count <= k {
+        return 0;
+    }
+    s.base + k * s.size
 }
 
 // Whether the serial stands in a section.

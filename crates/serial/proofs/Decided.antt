@@ -1,6 +1,8 @@
 -- Each public contract decides its outcome: of two results and two contents of each lent buffer that it allows, each is the other.
 use mathlib.Core.Path.{refl, sym, _∙_}
 use Rattle.promise.specs.Determined.{Decided}
+use Rattle.serial.proofs.all_digits.Kinds as all-digits-k
+use Rattle.serial.proofs.all_digits.Reads as all-digits
 use Rattle.serial.proofs.is_serial.Kinds as is-serial-k
 use Rattle.serial.proofs.is_serial.Reads as is-serial
 use Rattle.serial.proofs.byte_at.Kinds as byte-at-k
@@ -15,6 +17,9 @@ use Rattle.serial.proofs.Serial.bytes.Kinds as bytes-k
 use Rattle.serial.proofs.Serial.bytes.Reads as bytes
 use Rattle.serial.proofs.holds_serial.Kinds as holds-serial-k
 use Rattle.serial.proofs.holds_serial.Reads as holds-serial
+
+pub all-digits-decided : Decided 1 all-digits-k.ps all-digits-k.r all-digits.Pre all-digits.Post
+all-digits-decided = record { always = λ κs a. tt; determined = λ κs a p z z′ ws ws′ q q′. (q ∙ sym q′, refl) }
 
 pub is-serial-decided : Decided 1 is-serial-k.ps is-serial-k.r is-serial.Pre is-serial.Post
 is-serial-decided = record { always = λ κs a. tt; determined = λ κs a p z z′ ws ws′ q q′. (q ∙ sym q′, refl) }

@@ -17,7 +17,8 @@ fn is_digit(d: u8) -> bool
     (48 <= d) & (d <= 57)
 }
 
-fn all_digits(text: &[u8]) -> bool
+// Whether every byte of a text is an ASCII digit.
+pub fn all_digits(text: &[u8]) -> bool
     ensures { λ r. ⌜ r ≡ digitsOk (now (text .entry)) ⌝ }
 {
     let mut ok = true;

@@ -1,2 +1,4 @@
--- What the contracts of this crate decide.
+-- What the contracts of this crate decide, and the laws that their proofs cite.
+pub mod Fields
+pub mod Reading
 pub mod Decided

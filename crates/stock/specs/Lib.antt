@@ -1,2 +1,3 @@
 -- What the stock program in C gets.
 pub mod Signed
+pub mod Reading

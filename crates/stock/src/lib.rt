@@ -1,4 +1,6 @@
 // What the bench computer's stock program calls from C. Each function gives one signed number: the place of a card's first byte, the new length, or a refusal's number negated.
+pub mod read;
+
 use book::Found;
 use change::Changed;
 ghost use mathlib.Core.Path.{_≡_};

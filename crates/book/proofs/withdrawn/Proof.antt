@@ -1,5 +1,4 @@
 -- `book::withdrawn` meets its contract.
-use native.Mathlib.Omega.{arith}
 use borrow.Author.Needs.{needs}
 use Rattle.book.proofs.withdrawn.Statement.{statement}
 use Rattle.book.proofs.withdrawn.Tie as tie
@@ -20,7 +19,7 @@ count-at-requires-2 : tie.Need-count-at-requires-2
 count-at-requires-2 c κs = search needs
 
 returns : tie.Need-returns
-returns c = (simp (c .count-at2 .ensures .0, c .before .count-at .ensures .0), c .count-at2 .ensures .1, omega (arith, c .before .count-at .ensures .1))
+returns c = (simp (c .count-at2 .ensures .0, c .before .count-at .ensures .0), c .count-at2 .ensures .1)
 
 pub withdrawn-spec : {M : Type 1} → statement M
 withdrawn-spec =

@@ -1,6 +1,7 @@
 -- `step_at` meets its contract.
 use mathlib.Core.Path.{_≡_, ap, _∙_}
-use Prim.Native.Nat.{_+_, _*_}
+use Prim.Native.Nat.{_+_, _*_, _≤_}
+use native.Mathlib.Omega.{arith}
 use denote.Ref.{now}
 use Rattle.section.specs.Sections.{endOf}
 use Rattle.book.specs.Book.{cards, withdrawn}
@@ -26,8 +27,18 @@ add-cards-end c = search needs
 mul-end : tie.Need-mul-end
 mul-end c = search needs
 
+-- the withdrawn serials begin behind at most 65,535 cards
+begins : (c : tie.After-withdrawn) → c .withdrawn .result .base ≤ 2424799
+begins c =
+    omega (
+      arith,
+      ap (λ (s : Section). s .base) (c .withdrawn .ensures .0),
+      ap (λ (s : Section). s .count) (c .before .cards .ensures .0),
+      c .before .cards .ensures .1,
+    )
+
 add-end : tie.Need-add-end
-add-end c = search needs
+add-end c = omega (arith, begins (c .before .before .before))
 
 past-count-requires : tie.Need-past-count-requires
 past-count-requires c κs = search needs
@@ -58,7 +69,7 @@ returns c =
     rw (c .entry-step .ensures, from p) (at-card (now (a .b)) (a .at) (rw (from p, ends p) at (c .before .if1 .taken)))
 
 entry-step-requires-2 : tie.Need-entry-step-requires-2
-entry-step-requires-2 c κs = search needs
+entry-step-requires-2 c κs = (search needs, omega (arith, begins (c .before .before .before .before .before .before)))
 
 returns-2 : tie.Need-returns-2
 returns-2 c =

@@ -13,13 +13,14 @@ use Rattle.serial.specs.Every.{every}
 use Rattle.serial.proofs.Every.{every-none, every-more, every-fails}
 use Rattle.serial.proofs.Places.{row-fits, part-at}
 use Rattle.section.specs.Sections.{same, serialAt, fresh, distinct}
+use Rattle.section.specs.declared.Kind.the-variants.{Cards}
 use Rattle.section.specs.declared.Section.{Section}
 use Rattle.section.proofs.Sections.{not-same}
 use Rattle.section.proofs.distinct.Statement.{statement}
 use Rattle.section.proofs.distinct.Tie as tie
 
 abbrev sec : ℕ → ℕ → ℕ → Section
-sec base size n = record { base = base; size = size; count = n }
+sec base size n = record { kind = Cards; base = base; size = size; count = n }
 
 abbrev Inv-bytes : tie.InvT-bytes
 Inv-bytes b base size n j y i x k₀ k = (k ≤ 13) × (x + 13 ≤ length b) × (y + 13 ≤ length b) × (every (λ (m : ℕ). eqb (getD (serialAt b (sec base size n) i) m 0) (getD (serialAt b (sec base size n) j) m 0)) k ≡ true)
@@ -150,7 +151,7 @@ section-again c =
     (omega arith, every-more _ _ (c .before .before .before .section .inv .1) (rw e at (c .before .pairs .inv .2)))
 
 returns : tie.Need-returns Inv-bytes μ-bytes Inv-pairs μ-pairs Inv-section μ-section
-unfolding distinct fresh same
+unfolding distinct fresh same serialAt
 returns c =
     ⊎-elim
     (λ w.

@@ -13,10 +13,10 @@ use Rattle.section.proofs.entries_ok.Statement.{statement}
 use Rattle.section.proofs.entries_ok.Tie as tie
 
 abbrev Inv-loop : tie.InvT-loop
-Inv-loop b base size n ok₀ k₀ ok k = (k ≤ n) × (ok ≡ every (λ (i : ℕ). entryOk size (part b (base + i * size) size)) k)
+Inv-loop b kind base size n ok₀ k₀ ok k = (k ≤ n) × (ok ≡ every (λ (i : ℕ). entryOk kind (part b (base + i * size) size)) k)
 
 abbrev μ-loop : tie.MeasureT-loop
-μ-loop b base size n ok₀ k₀ ok k = n - k
+μ-loop b kind base size n ok₀ k₀ ok k = n - k
 
 loop-holds : tie.Need-loop-holds Inv-loop μ-loop
 loop-holds c = (omega arith, sym (every-none _))

@@ -1,0 +1,2 @@
+-- Laws of values and lines.
+pub mod Laws

@@ -1,0 +1,3 @@
+-- The refusals' words, for people who meet a refusal's number.
+pub mod Ascii
+pub mod Words
