@@ -73,13 +73,13 @@ class Session:
         """A fresh module; an interval that runs is cut off."""
         if self.running is not None:
             self.intervals.append((self.running, at, None, self.force))
-        self.n, self.origin = n, at
+        self.n, self.origin, self.since = n, at, len(self.boxes)
         self.waiting = self.force = self.running = None
         self.count, self.desks, self.held, self.closed = 0, {}, {}, None
 
     def say(self, lane, line, colour=INK, box_colour=None):
         at, lane = len(self.volts), lane if lane in LANES else "module"      # there is no other port
-        last = next((box for box in reversed(self.boxes) if box.lane == lane), None)
+        last = next((box for box in reversed(self.boxes[self.since:]) if box.lane == lane), None)
         if last is None or last.at != at or (box_colour and last.colour not in (NO_CARD, box_colour)):
             last = Box(lane, at)
             self.boxes.append(last)
