@@ -30,12 +30,46 @@ is_built() { # NAME
     [ -x "$program" ] && [ -z "$(find "$root/crates" "$root/crates.txt" -newer "$program" -print -quit)" ]
 }
 
-# Proves, compiles and links the named programs, and says something only where that fails.
+# Proves, compiles and links the named programs. Says on standard error how far it is, and all that rt said where it fails.
 build_programs() { # NAME..
-    local log=$root/target/rattle-build.log
+    local log=$root/target/rattle-build.log crates
     find_kit
     mkdir -p "$root/target"
-    (cd "$root" && rt check "$@") >"$log" 2>&1 || { cat "$log" >&2; exit 2; }
+    mapfile -t crates < <(crates_below "$@")
+    (cd "$root" && rt check "$@") 2>&1 | tee "$log" | say_progress "${crates[@]}"
+    [ "${PIPESTATUS[0]}" = 0 ] || { cat "$log" >&2; exit 2; }
+}
+
+# The named crates and all that they stand on, in rt's order: a crate behind those that it stands on, level by level.
+crates_below() { # NAME..
+    awk -v names="$*" '
+        function visit(name, list, count, k, level) {
+            if (!(name in below) || name in done) return done[name]
+            count = split(below[name], list, " ")
+            for (k = 1; k <= count; k++) if (list[k] in below && visit(list[k]) >= level) level = done[list[k]] + 1
+            done[name] = level + 0
+            print done[name], name
+            return done[name]
+        }
+        /^[^#]*:/ { sub(/#.*/, ""); colon = index($0, ":"); below[substr($0, 1, colon - 1)] = substr($0, colon + 1) }
+        END { count = split(names, wanted, " "); for (k = 1; k <= count; k++) visit(wanted[k]) }' "$root/crates.txt" |
+        sort -s -n -k 1,1 | cut -d ' ' -f 2
+}
+
+# Reads what rt says and says which of the crates is being proved; rt reports them in this order. A terminal keeps one line.
+say_progress() { # CRATE..
+    local all=$# line begin='' end='\n'
+    [ ! -t 2 ] || { begin='\r\033[K' end=''; }
+    # shellcheck disable=SC2059 # begin and end are formats
+    {
+        printf "${begin}proving 1 of $all: %s$end" "$1"
+        while read -r line; do
+            [[ $line == "rt: ${1-} proved"* ]] || continue
+            shift
+            [ $# = 0 ] || printf "${begin}proving %d of $all: %s$end" $((all - $# + 1)) "$1"
+        done
+        printf "$begin"
+    } >&2
 }
 
 # Runs a program as rt itself does: under the kit's loader and C library.

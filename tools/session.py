@@ -1,0 +1,215 @@
+"""What happened in a session at the console, from its steps and their answers; tools/picture draws it."""
+import re
+
+FIELDS = ("VOFFS", "IOFFS", "VGAIN", "IGAIN", "PHASE", "IRMSOFFS", "SQUELCH", "POFFS")
+REGISTERS = {0x2B: "VA_RMS", 0x3E: "IA_RMS", 0x46: "IA_PEAK", 0x4B: "WATT_A", 0x4E: "VA_A", 0x65: "PFA", 0x8B: "IA_CREST",
+             0x8F: "PA_POS_CNT", 0x92: "PA_NEG_CNT", **{0x71 + k: f"MIN{k + 1}" for k in range(6)},
+             **{0x77 + k: f"MAX{k + 1}" for k in range(6)}}
+FIELD_NAMES = {name: k for k, name in enumerate(FIELDS, 1)}
+WORDS = {name: word for word, name in REGISTERS.items()}
+BYTES = {name: 3 * word for word, name in REGISTERS.items()}
+STEPS = ("start", "open", "write", "commit", "drop", "hold", "read", "block")
+LANES = {"module": "the module", "fitter 0": "fitter, port 0", "fitter 1": "fitter, port 1",
+         "reader 0": "reader, port 0", "reader 1": "reader, port 1"}
+# A colour for lines and text, and a light one for areas; cards take them in turn.
+COLOURS = (("#1f5f9e", "#dcebf8"), ("#b4570b", "#fce8d2"), ("#2c7a3d", "#def2df"), ("#7b3fa0", "#efe2f6"), ("#0b7a7a", "#d8f1f0"),
+           ("#a3294e", "#fae0e8"), ("#6b6311", "#f3f0cf"))
+NO_CARD = ("#555555", "#eeeeee")
+INK, FAINT, RED = "#22262b", "#8a9099", "#c0151b"
+
+
+class Wrong(Exception):
+    """Script and answers that do not fit each other."""
+
+
+def number(word, names=()):
+    """What a word of an accepted line is worth; a name of `names` is worth its place there."""
+    if word in names:
+        return names[word]
+    found = re.fullmatch(r"(-?)0*([0-9]+)|0x([0-9a-fA-F]+)", word)
+    if not found:
+        raise Wrong(f"{word[:40]!r} is no number that can be drawn")
+    return int(found[3], 16) if found[3] else int(found[1] + found[2])
+
+
+class Card:
+    """A card of a session: its fields as they are written, where it was committed and from which sample on it counts."""
+
+    def __init__(self, serial, port):
+        self.serial, self.port, self.fields = serial, port, {}
+        self.committed = self.first = None
+        self.end, self.colour, self.name = "still open", NO_CARD, serial
+
+
+class Box:
+    """Steps at one place and lane: lines of text with a colour each; a line may be a function, worked when all is known."""
+
+    def __init__(self, lane, at):
+        self.lane, self.at, self.lines, self.colour = lane, at, [], NO_CARD
+
+    def text(self):
+        return [(line() if callable(line) else line, colour) for line, colour in self.lines]
+
+
+class Session:
+    """What happened, from the steps and their answers."""
+
+    def __init__(self, steps, keeps):
+        self.keeps = keeps      # whether a refused start keeps the module
+        self.volts, self.amps, self.intervals, self.cards, self.boxes, self.starts = [], [], [], [], [], []
+        self.running = None     # where the interval that runs began
+        self.begin(1, 0)
+        for line, answer in steps:
+            self.line, self.answer, self.ok = line, answer, answer.split(" ")[0] == "ok"
+            words = line.removesuffix("\r").split(" ")
+            if answer.startswith("UNREAD"):
+                self.say("module", f"{line[:28]}: {answer}", RED)
+            elif words[0] in STEPS:
+                ports = [] if words[0] in ("start", "block") else [number(words[1])]
+                getattr(self, words[0])(*ports, *words[1 + len(ports):])
+        self.begin(1, len(self.volts))
+
+    def begin(self, n, at):
+        """A fresh module; an interval that runs is cut off."""
+        if self.running is not None:
+            self.intervals.append((self.running, at, None, self.force))
+        self.n, self.origin, self.since = n, at, len(self.boxes)
+        self.waiting = self.force = self.running = None
+        self.count, self.desks, self.held, self.closed = 0, {}, {}, None
+
+    def say(self, lane, line, colour=INK, box_colour=None):
+        at, lane = len(self.volts), lane if lane in LANES else "module"      # there is no other port
+        last = next((box for box in reversed(self.boxes[self.since:]) if box.lane == lane), None)
+        if last is None or last.at != at or (box_colour and last.colour not in (NO_CARD, box_colour)):
+            last = Box(lane, at)
+            self.boxes.append(last)
+        if box_colour:
+            last.colour = box_colour
+        last.lines.append((line, colour))
+
+    def refused(self, lane, said):
+        if not self.ok:
+            self.say(lane, f"{said}: {self.answer}", RED)
+        return not self.ok
+
+    def start(self, n, bucket, *slots):
+        at = len(self.volts)
+        if self.refused("module", "start"):
+            if not self.keeps:
+                self.begin(1, at)
+            return
+        self.starts.append(at)
+        self.begin(number(n), at)
+        self.say("module", f"start: {number(n):,} samples an interval, bucket {number(bucket):,}")
+        tracked = [f"{k + 1} {REGISTERS[number(word, WORDS)]}" for k, word in enumerate(slots) if number(word, WORDS)]
+        self.say("module", f"tracks in slot {', '.join(tracked)}" if tracked else "no slot tracks")
+
+    def open(self, port, *text):
+        lane, serial = f"fitter {port}", " ".join(text)
+        if not self.refused(lane, f"open {serial}"):
+            self.desks[port] = card = Card(serial, port)
+            self.say(lane, f"card {serial} is begun", INK)
+            card.box = self.boxes[-1]
+
+    def write(self, port, field, value):
+        field = number(field, FIELD_NAMES)
+        name = FIELDS[field - 1] if 1 <= field <= 8 else f"field {field}"
+        if self.refused(f"fitter {port}", f"{name} {number(value):,}"):
+            return
+        card = self.desks[port]
+        card.fields[field] = number(value)
+
+    def fields_said(self, card, port):
+        lane = f"fitter {port}"
+        for field, name in enumerate(FIELDS, 1):
+            value = card.fields.get(field)
+            if value:
+                self.say(lane, f"{name} {value:,}" + (f" (times {value / 2**21:.6g})" if field in (3, 4) else ""))
+        zero = sum(value == 0 for value in card.fields.values())
+        if zero:
+            self.say(lane, f"the other {zero} fields 0" if zero < 8 else "all fields 0")
+
+    def commit(self, port):
+        lane = f"fitter {port}"
+        if self.refused(lane, "commit"):
+            return
+        card = self.desks.pop(port)
+        self.fields_said(card, port)
+        if self.waiting:
+            self.waiting.end = "replaced before any sample"
+        self.waiting, card.committed, card.end = card, len(self.volts), "waits to the end"
+        self.cards.append(card)
+        self.say(lane, lambda: f"committed, {card.end}")
+        card.box = self.boxes[-1]
+
+    def drop(self, port):
+        if not self.refused(f"fitter {port}", "drop"):
+            card = self.desks.pop(port)
+            self.fields_said(card, port)
+            self.say(f"fitter {port}", "dropped")
+
+    def block(self, *words):
+        bar = words.index("|")
+        if self.refused("module", f"block of {bar}"):
+            return
+        for v, i in zip(words[:bar], words[bar + 1:]):
+            if self.running is None:
+                self.first_sample()
+            self.volts.append(number(v))
+            self.amps.append(number(i))
+            if len(self.volts) - self.running == self.n:
+                self.count += 1
+                self.closed = (self.running, len(self.volts), self.count, self.force)
+                self.intervals.append(self.closed)
+                self.running = None
+
+    def first_sample(self):
+        self.running = at = len(self.volts)
+        if self.waiting:
+            self.force, self.waiting = self.waiting, None
+            same = sum(card.serial == self.force.serial and card.first is not None for card in self.cards)
+            self.force.first, self.force.end = at, f"counts from sample {at - self.origin + 1} on"
+            self.force.colour = COLOURS[sum(card.first is not None for card in self.cards[:-1]) % len(COLOURS)]
+            self.force.name += f" (no. {same + 1})" if same else ""
+            self.force.box.colour = self.force.colour
+
+    def hold(self, port):
+        if self.refused(f"reader {port}", "hold"):
+            return
+        _, _, count, card = self.closed or (0, 0, 0, None)
+        if not card or self.answer.split(" ")[1:] != [str(count), card.serial]:
+            raise Wrong(f"{self.line}: answered {self.answer!r}, but by the steps before it the last interval is {count}"
+                        f"{f' with card {card.serial}' if card else ''}")
+        self.held[port] = self.closed
+        self.say(f"reader {port}", f"hold: interval {count}, card {card.serial}", card.colour[0], card.colour)
+
+    def read(self, port, address):
+        lane = f"reader {port}"
+        byte = number(address, BYTES)
+        name = REGISTERS.get(byte // 3, address) if byte % 3 == 0 else address
+        if self.refused(lane, f"read {name}"):
+            return
+        _, _, count, card = self.held[port]
+        if not any(box.lane == lane and box.at == len(self.volts) and box.colour == card.colour for box in self.boxes):
+            self.say(lane, f"still holds interval {count}", card.colour[0], card.colour)
+        self.say(lane, f"{name} {int(self.answer.split(' ')[1]):,}", INK, card.colour)
+
+
+def steps_of(script, answers):
+    """Each line that has an answer, with it; `help` may be answered by lines that begin with #."""
+    lines, answers = ([line for line in text.split("\n") if line and not line.startswith("#")] for text in (script, answers))
+    if len(lines) != len(answers):
+        lines = [line for line in lines if line != "help"]
+    if len(lines) != len(answers):
+        raise Wrong(f"{len(lines)} steps and {len(answers)} answers")
+    return list(zip(lines, answers))
+
+
+def session_of(steps):
+    """The session that fits the answers: a start that is refused in its course leaves a fresh module, or keeps it, by the console's age."""
+    for keeps in (False, True):
+        try:
+            return Session(steps, keeps)
+        except (Wrong, LookupError, AttributeError) as error:
+            said = said if keeps else error
+    raise said if isinstance(said, Wrong) else Wrong(f"the answers do not fit the steps ({said!r})")
