@@ -1,26 +1,24 @@
 -- A serial stands in a section exactly when one of the section's entries has its digits.
-use Prim.Native.Nat.{ℕ, _+_, _*_, _≤_, _<_}
+use Prim.Native.Nat.{ℕ, _+_, _≤_, _<_}
 use mathlib.Core.Path.{_≡_, refl, sym, ap, _∙_}
 use mathlib.Core.Bool.{Bool, true, false, not, _&&_, false≢true}
 use mathlib.Core.List.{List}
 use native.Mathlib.Omega.{arith}
 use lib.Dec.{leb, ltb, eqb}
 use lib.ListN.{length, getD, take, length-take}
-use lib.Seq.{getD-take}
-use borrow.Author.Tests.{ltb-true, ltb-false, lt-ltb, leb-true, not-true}
-use Rattle.serial.specs.Every.{every, first}
-use Rattle.serial.specs.Places.{part}
+use borrow.Author.Tests.{ltb-true, ltb-false, leb-true, not-true}
+use Rattle.serial.specs.Every.{every}
 use Rattle.serial.specs.Serials.{isSerial, serialOf, serialBytes, placeOk, holdsSerial, textOf}
 use Rattle.serial.proofs.Every.{every-at, first-all, first-passes, and-left, and-right}
 use Rattle.serial.proofs.Places.{length-part, row-fits}
 use Rattle.serial.proofs.Serials.{length-bytes, text-back, bytes-back}
-use Rattle.card.specs.Cards.{isCard, fieldsOk}
+use Rattle.card.specs.Cards.{fieldsOk}
 use Rattle.section.specs.declared.Kind.the-variants.{Cards, Serials}
 use Rattle.section.specs.declared.Section.{Section}
 use Rattle.section.specs.Sections.{placeOf, Lies, entryAt, serialAt, entryOk, entriesOk, same, distinct, sectionOk, firstOf, findIn, has}
 use Rattle.section.proofs.Sections.{same-self, same-is, serial-first, section-lies, find-lies}
 use Rattle.book.specs.Book.{cards, withdrawn, sized, wellFormed}
-use Rattle.book.specs.Answers.{Answer, accepted, refused, ask}
+use Rattle.book.specs.Answers.{Answer, refused}
 use Rattle.book.specs.Lookup.{seekOf, lookupOf}
 use Rattle.book.specs.Promises.{StandsIn, Exactly, ExactlyStands, ExactlyWithdrawn}
 use Rattle.book.proofs.Sections.{formed-sized, cards-lie, withdrawn-lie}

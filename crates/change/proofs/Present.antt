@@ -1,20 +1,16 @@
 -- 19 is given exactly when one of the section's entries has the digits.
 use Prim.Native.Nat.{ℕ, _+_}
 use mathlib.Core.Path.{_≡_, refl, ap}
-use mathlib.Core.Bool.{Bool, true, false, _&&_}
+use mathlib.Core.Bool.{Bool, true, false}
 use mathlib.Core.List.{List}
 use native.Mathlib.Omega.{arith}
 use lib.Dec.{leb, ltb}
-use lib.IntN.{ℤ}
 use lib.ListN.{length, take}
-use Rattle.serial.specs.Serials.{isSerial}
 use Rattle.serial.proofs.Every.{and-right}
-use Rattle.card.specs.Fields.{valuesFit}
 use Rattle.section.specs.Sections.{has}
 use Rattle.section.specs.declared.Section.{Section}
 use Rattle.book.specs.Book.{cards, withdrawn, wellFormed}
 use Rattle.book.specs.Answers.{Answer, refused}
-use Rattle.book.specs.Promises.{StandsIn, Exactly}
 use Rattle.book.proofs.Stands.{exactly-stands}
 use Rattle.change.specs.Change.{bookIn, roomFor, addAnswer, withdrawAnswer}
 use Rattle.change.specs.Promises.{AddPresent, WithdrawPresent}

@@ -1,5 +1,5 @@
 -- Laws of values and lines.
-use Prim.Native.Nat.{ℕ, suc, _+_, _-_, _*_, _≤_, _<_}
+use Prim.Native.Nat.{ℕ, _+_, _-_, _*_, _≤_, _<_}
 use mathlib.Core.Path.{_≡_, refl, sym, ap, _∙_}
 use mathlib.Core.Bool.{Bool, true, false}
 use mathlib.Core.List.{List, [], _∷_, _++_}
@@ -10,7 +10,7 @@ use lib.Dec.{leb}
 use lib.ListN.{length, getD, take, drop, length-drop}
 use lib.Seq.{take-all}
 use borrow.Author.Tests.{leb-true, leb-false, le-leb, lt-leb}
-use Rattle.serial.specs.Places.{put, putWithin}
+use Rattle.serial.specs.Places.{putWithin}
 use Rattle.serial.proofs.Places.{put-fits, front-put}
 use Rattle.refusal.specs.Words.{wordsOf, writtenOf}
 use Rattle.refusal.proofs.Rows.{words-short, written-all}

@@ -3,7 +3,6 @@ ghost use mathlib.Core.Path.{_≡_};
 ghost use mathlib.Core.List.{[], _++_};
 ghost use Prim.Native.Nat.{_+_, _≤_};
 ghost use lib.ListN.{length};
-ghost use lib.IntN.{pos};
 ghost use Rattle.decimal.specs.Decimals.{signedDecimal};
 ghost use Rattle.refusal.specs.Words.{wordsOf};
 ghost use Rattle.counter.specs.Lines.{shown, textLine, numberLine, refusedLine};

@@ -1,12 +1,12 @@
 -- The ways through what is read of an entry, each as an answer and what is lent then.
 use Prim.Native.Nat.{ℕ, _+_, _≤_, _<_}
-use mathlib.Core.Path.{_≡_, refl, sym, ap, _∙_}
-use mathlib.Core.Bool.{Bool, true, false, _&&_}
+use mathlib.Core.Path.{_≡_, refl}
+use mathlib.Core.Bool.{true, false, _&&_}
 use mathlib.Core.List.{List, _++_}
 use native.Mathlib.Omega.{arith}
 use lib.IntN.{ℤ, pos, negsuc}
 use lib.Dec.{leb}
-use lib.ListN.{length, take, drop, getD, length-take, length-drop}
+use lib.ListN.{length, drop, getD, length-take, length-drop}
 use borrow.Author.Tests.{leb-true, le-leb, lt-leb}
 use Rattle.serial.specs.Every.{every}
 use Rattle.serial.specs.Places.{put}

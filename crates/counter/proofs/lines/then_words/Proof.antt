@@ -1,13 +1,9 @@
 -- `counter::lines::then_words` meets its contract.
-use Prim.Native.Nat.{ℕ, _+_, _≤_}
-use mathlib.Core.Path.{_≡_, refl, sym, ap, _∙_}
-use mathlib.Core.List.{List, _++_}
+use mathlib.Core.Path.{_≡_, refl, _∙_}
 use native.Mathlib.Omega.{arith}
 use lib.ListN.{length, take, replicate}
-use Rattle.serial.specs.Places.{putWithin}
-use Rattle.refusal.specs.Words.{wordsOf, writtenOf}
+use Rattle.refusal.specs.Words.{wordsOf}
 use Rattle.refusal.proofs.Rows.{words-short, written-all}
-use Rattle.counter.specs.Lines.{shown}
 use Rattle.counter.proofs.Laws.{words-shown}
 use borrow.Author.Needs.{needs}
 use Rattle.counter.proofs.lines.then_words.Statement.{statement}

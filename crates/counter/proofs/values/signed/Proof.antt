@@ -1,5 +1,4 @@
 -- `counter::values::signed` meets its contract.
-use Prim.Native.Nat.{_<_}
 use mathlib.Core.Path.{_≡_, refl}
 use native.Mathlib.Omega.{arith}
 use lib.IntN.{pos, _-ℤ_}

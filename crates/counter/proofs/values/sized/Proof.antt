@@ -1,10 +1,8 @@
 -- `counter::values::sized` meets its contract.
-use mathlib.Core.Path.{_≡_, refl, ap, _∙_}
-use lib.IntN.{ℤ}
-use mathlib.Core.Bool.{Bool}
+use mathlib.Core.Path.{refl}
 use mir.Syntax.{w64}
 use mir.Facts.{toZ-ofZ}
-use Rattle.counter.specs.Values.{signedBy, sizedValue}
+use Rattle.counter.specs.Values.{sizedValue}
 use borrow.Author.Needs.{needs}
 use Rattle.counter.proofs.values.sized.Statement.{statement}
 use Rattle.counter.proofs.values.sized.Tie as tie
