@@ -1,5 +1,6 @@
 /* Measures a lookup in a full book, 1,024 cards and 512 withdrawn serials: the proved one beside plain C. */
 #include <stdio.h>
+#include <stdlib.h>
 #include <string.h>
 #include <time.h>
 
@@ -45,8 +46,10 @@ static double seconds(int64_t (*lookup)(const uint8_t *, size_t, const uint8_t *
     struct timespec a, b;
     clock_gettime(CLOCK_MONOTONIC, &a);
     for (int k = 0; k < LOOKUPS; k++)
-        if (lookup(book, length, serial, n) != 2 + 37 * 1023)
-            printf("wrong place\n");
+        if (lookup(book, length, serial, n) != 2 + 37 * 1023) {
+            fprintf(stderr, "a lookup gave a wrong place\n");
+            exit(1);
+        }
     clock_gettime(CLOCK_MONOTONIC, &b);
     return (double)(b.tv_sec - a.tv_sec) + (double)(b.tv_nsec - a.tv_nsec) / 1e9;
 }

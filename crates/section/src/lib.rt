@@ -74,7 +74,7 @@ fn distinct(b: &[u8], s: Section) -> bool
     'section: while j < n {
         let y = base + j * size;
         let mut i = 0;
-        'pairs: while i < j {
+        while i < j {
             let x = base + i * size;
             let mut k = 0;
             'bytes: while k < 13 {
