@@ -20,6 +20,6 @@ textLine name t = name ++ (32 ∷ []) ++ t ++ (10 ∷ [])
 unfoldable pub numberLine : List ℕ → ℤ → List ℕ
 numberLine name v = textLine name (signedDecimal v)
 
--- REFUSED, the number, and its words
+-- REFUSED, the number, and behind a colon (58) its words
 unfoldable pub refusedLine : ℕ → List ℕ
-refusedLine n = textLine (ascii "REFUSED") (signedDecimal (pos n) ++ (32 ∷ []) ++ wordsOf n)
+refusedLine n = textLine (ascii "REFUSED") (signedDecimal (pos n) ++ (58 ∷ 32 ∷ []) ++ wordsOf n)

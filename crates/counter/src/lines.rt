@@ -78,5 +78,5 @@ pub fn refused_line(number: u8) -> Line
     ensures { λ r. ⌜ (shown r ≡ refusedLine number) × (r .len ≤ 96) ⌝ }
 {
     let head = then_number(then(then(empty(), b"REFUSED"), b" "), number as i64);
-    then(then_words(then(head, b" "), number as usize), b"\n")
+    then(then_words(then(head, b": "), number as usize), b"\n")
 }
