@@ -104,7 +104,9 @@ pub fn lookup(book: &[u8], text: &[u8]) -> Found
 
 // The 37 bytes of the card that lookup finds, as a part of the book; an empty part where it refuses.
 pub fn card_of<'a>(book: &'a [u8], text: &[u8]) -> &'a [u8]
-    ensures { λ r. ⌜ (now r ≡ cardPart (now (book .entry)) (now (text .entry))) × (r .ptr .0 ≡ book .entry .ptr .0) × (r .ptr .1 ≡ book .entry .ptr .1 + lookupOf (now (book .entry)) (now (text .entry)) .value) ⌝ }
+    ensures { λ r. ⌜ (now r ≡ cardPart (now (book .entry)) (now (text .entry)))
+        × (r .ptr .0 ≡ book .entry .ptr .0)
+        × (r .ptr .1 ≡ book .entry .ptr .1 + lookupOf (now (book .entry)) (now (text .entry)) .value) ⌝ }
 {
     match lookup(book, text) {
         Found::At(n) => {

@@ -94,7 +94,9 @@ fn accepted(answer: Changed) -> bool
 // Puts an entry with the serial of this text last in a section of the book in the first used bytes, where the section takes it.
 fn enter(buffer: &mut [u8], used: usize, s: Section, limit: usize, text: &[u8], x: &[u8]) -> Changed
     requires { ⌜ Ready (now buffer) used s limit (now x) ⌝ }
-    ensures { λ r. ⌜ (changedAnswer r ≡ roomFor (take used (now (buffer .entry))) s limit (now (text .entry)) (length (now (buffer .entry)))) × (now (buffer .exit) ≡ bufferAfter (roomFor (take used (now (buffer .entry))) s limit (now (text .entry)) (length (now (buffer .entry)))) (now (buffer .entry)) (withEntry (take used (now (buffer .entry))) s (now (x .entry)))) ⌝ }
+    ensures { λ r. ⌜ (changedAnswer r ≡ roomFor (take used (now (buffer .entry))) s limit (now (text .entry)) (length (now (buffer .entry))))
+        × (now (buffer .exit) ≡ bufferAfter (roomFor (take used (now (buffer .entry))) s limit (now (text .entry)) (length (now (buffer .entry))))
+        (now (buffer .entry)) (withEntry (take used (now (buffer .entry))) s (now (x .entry)))) ⌝ }
 {
     let room = buffer.len();
     let answer = room_for(&buffer[0..used], s, limit, text, room);
@@ -107,7 +109,8 @@ fn enter(buffer: &mut [u8], used: usize, s: Section, limit: usize, text: &[u8], 
 
 // Adds the card with a serial and eight values to the book in the first used bytes of a buffer: the new length, or the refusal.
 pub fn add(buffer: &mut [u8], used: usize, text: &[u8], values: [i64; 8]) -> Changed
-    ensures { λ r. ⌜ (changedAnswer r ≡ addAnswer (now (buffer .entry)) used (now (text .entry)) values) × (now (buffer .exit) ≡ added (now (buffer .entry)) used (now (text .entry)) values) ⌝ }
+    ensures { λ r. ⌜ (changedAnswer r ≡ addAnswer (now (buffer .entry)) used (now (text .entry)) values)
+        × (now (buffer .exit) ≡ added (now (buffer .entry)) used (now (text .entry)) values) ⌝ }
 {
     if !serial::is_serial(text) {
         return Changed::NotSerial;
@@ -125,7 +128,8 @@ pub fn add(buffer: &mut [u8], used: usize, text: &[u8], values: [i64; 8]) -> Cha
 
 // Withdraws a serial in the book in the first used bytes of a buffer: the new length, or the refusal.
 pub fn withdraw(buffer: &mut [u8], used: usize, text: &[u8]) -> Changed
-    ensures { λ r. ⌜ (changedAnswer r ≡ withdrawAnswer (now (buffer .entry)) used (now (text .entry))) × (now (buffer .exit) ≡ afterWithdraw (now (buffer .entry)) used (now (text .entry))) ⌝ }
+    ensures { λ r. ⌜ (changedAnswer r ≡ withdrawAnswer (now (buffer .entry)) used (now (text .entry)))
+        × (now (buffer .exit) ≡ afterWithdraw (now (buffer .entry)) used (now (text .entry))) ⌝ }
 {
     if !serial::is_serial(text) {
         return Changed::NotSerial;

@@ -30,7 +30,8 @@ lowestSettings = record { n = 1; b = 1; track = replicate 6 off }
 
 pub record Begins (p : Program) : Type 0 where
   pub answer : p .started .answer ≡ cond (numbersOk (p .n) (p .b) && everySlot (p .track)) Done (Refused 7)
-  pub settings-are : settings p ≡ cond (numbersOk (p .n) (p .b) && everySlot (p .track)) (record { n = natAbs (p .n); b = natAbs (p .b); track = p .track }) lowestSettings
+  pub settings-are : settings p ≡ cond (numbersOk (p .n) (p .b) && everySlot (p .track))
+      (record { n = natAbs (p .n); b = natAbs (p .b); track = p .track }) lowestSettings
   pub fresh : Fresh (first p)
 
 abbrev pub EveryStart : Type 0

@@ -67,7 +67,8 @@ fn length_of(number: usize) -> usize
 
 // Puts a text at the front of a buffer, where it fits, and gives how many bytes are written.
 fn put(buffer: &mut [u8], text: &[u8]) -> usize
-    ensures { λ r. ⌜ (r ≡ writtenOf (now (text .entry)) (length (now (buffer .entry)))) × (now (buffer .exit) ≡ putWithin (now (buffer .entry)) 0 (now (text .entry))) ⌝ }
+    ensures { λ r. ⌜ (r ≡ writtenOf (now (text .entry)) (length (now (buffer .entry))))
+        × (now (buffer .exit) ≡ putWithin (now (buffer .entry)) 0 (now (text .entry))) ⌝ }
 {
     if buffer.len() < text.len() {
         return 0;
@@ -78,7 +79,8 @@ fn put(buffer: &mut [u8], text: &[u8]) -> usize
 
 // Puts the words of a refusal's number at the front of a buffer and gives how many bytes they are: 0 where there are none, or too little room.
 pub fn words(number: usize, buffer: &mut [u8]) -> usize
-    ensures { λ r. ⌜ (r ≡ writtenOf (wordsOf number) (length (now (buffer .entry)))) × (now (buffer .exit) ≡ putWithin (now (buffer .entry)) 0 (wordsOf number)) ⌝ }
+    ensures { λ r. ⌜ (r ≡ writtenOf (wordsOf number) (length (now (buffer .entry))))
+        × (now (buffer .exit) ≡ putWithin (now (buffer .entry)) 0 (wordsOf number)) ⌝ }
 {
     if 21 < number {
         return 0;

@@ -1,4 +1,5 @@
-// What the bench computer's stock program calls from C. Each function gives one signed number: the place of a card's first byte, the new length, or a refusal's number negated.
+// What the bench computer's stock program calls from C. Each function gives one signed number: the place of a card's first byte, the new
+// length, or a refusal's number negated.
 pub mod read;
 
 use book::Found;
@@ -63,7 +64,10 @@ pub extern "C" fn stock_add(
     squelch: i64,
     poffs: i64,
 ) -> i64
-    ensures { λ r. ⌜ (r ≡ signed (addAnswer (now (buffer .entry)) used (now (serial .entry)) (voffs ∷ ioffs ∷ vgain ∷ igain ∷ phase ∷ irmsoffs ∷ squelch ∷ poffs ∷ []))) × (now (buffer .exit) ≡ added (now (buffer .entry)) used (now (serial .entry)) (voffs ∷ ioffs ∷ vgain ∷ igain ∷ phase ∷ irmsoffs ∷ squelch ∷ poffs ∷ [])) ⌝ }
+    ensures { λ r. ⌜ (r ≡ signed (addAnswer (now (buffer .entry)) used (now (serial .entry))
+        (voffs ∷ ioffs ∷ vgain ∷ igain ∷ phase ∷ irmsoffs ∷ squelch ∷ poffs ∷ [])))
+        × (now (buffer .exit) ≡ added (now (buffer .entry)) used (now (serial .entry))
+        (voffs ∷ ioffs ∷ vgain ∷ igain ∷ phase ∷ irmsoffs ∷ squelch ∷ poffs ∷ [])) ⌝ }
 {
     let values = [voffs, ioffs, vgain, igain, phase, irmsoffs, squelch, poffs];
     changed_number(change::add(buffer, used, serial, values))
@@ -72,7 +76,8 @@ pub extern "C" fn stock_add(
 // Withdraws a serial; the length of the new book.
 #[no_mangle]
 pub extern "C" fn stock_withdraw(buffer: &mut [u8], used: usize, serial: &[u8]) -> i64
-    ensures { λ r. ⌜ (r ≡ signed (withdrawAnswer (now (buffer .entry)) used (now (serial .entry)))) × (now (buffer .exit) ≡ afterWithdraw (now (buffer .entry)) used (now (serial .entry))) ⌝ }
+    ensures { λ r. ⌜ (r ≡ signed (withdrawAnswer (now (buffer .entry)) used (now (serial .entry))))
+        × (now (buffer .exit) ≡ afterWithdraw (now (buffer .entry)) used (now (serial .entry))) ⌝ }
 {
     changed_number(change::withdraw(buffer, used, serial))
 }

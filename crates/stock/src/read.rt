@@ -38,7 +38,8 @@ pub extern "C" fn stock_withdrawn(book: &[u8], k: usize) -> usize
 // The words of a refusal's number, put at the front of a buffer: how many bytes, 0 where there are none or too little room.
 #[no_mangle]
 pub extern "C" fn stock_words(number: usize, buffer: &mut [u8]) -> usize
-    ensures { λ r. ⌜ (r ≡ writtenOf (wordsOf number) (length (now (buffer .entry)))) × (now (buffer .exit) ≡ putWithin (now (buffer .entry)) 0 (wordsOf number)) ⌝ }
+    ensures { λ r. ⌜ (r ≡ writtenOf (wordsOf number) (length (now (buffer .entry))))
+        × (now (buffer .exit) ≡ putWithin (now (buffer .entry)) 0 (wordsOf number)) ⌝ }
 {
     refusal::words(number, buffer)
 }
@@ -46,7 +47,8 @@ pub extern "C" fn stock_words(number: usize, buffer: &mut [u8]) -> usize
 // The digits of the serial that an entry begins with, put at the front of a buffer: how many there are, or the refusal.
 #[no_mangle]
 pub extern "C" fn stock_serial(entry: &[u8], text: &mut [u8]) -> i64
-    ensures { λ r. ⌜ (r ≡ signed (serialAnswer (now (entry .entry)) (length (now (text .entry))))) × (now (text .exit) ≡ serialText (now (entry .entry)) (now (text .entry))) ⌝ }
+    ensures { λ r. ⌜ (r ≡ signed (serialAnswer (now (entry .entry)) (length (now (text .entry)))))
+        × (now (text .exit) ≡ serialText (now (entry .entry)) (now (text .entry))) ⌝ }
 {
     if entry.len() < 13 {
         return -2;
@@ -79,7 +81,8 @@ fn put_fields(to: &mut [i64], fields: [i32; 8])
 // The eight fields of the card in 37 bytes, put at the front: 8, or the refusal.
 #[no_mangle]
 pub extern "C" fn stock_fields(card: &[u8], fields: &mut [i64]) -> i64
-    ensures { λ r. ⌜ (r ≡ signed (fieldsAnswer (now (card .entry)) (length (now (fields .entry))))) × (now (fields .exit) ≡ fieldsAfter (now (card .entry)) (now (fields .entry))) ⌝ }
+    ensures { λ r. ⌜ (r ≡ signed (fieldsAnswer (now (card .entry)) (length (now (fields .entry)))))
+        × (now (fields .exit) ≡ fieldsAfter (now (card .entry)) (now (fields .entry))) ⌝ }
 {
     if !card::is_card(card) {
         return -2;
