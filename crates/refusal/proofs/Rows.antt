@@ -11,7 +11,7 @@ use Rattle.serial.specs.Every.{every}
 use Rattle.serial.specs.Places.{part, putWithin, tab}
 use Rattle.serial.proofs.Every.{and-left, and-right, every-at}
 use Rattle.serial.proofs.Places.{lent, put-none, put-fits}
-use Rattle.refusal.specs.Ascii.{ascii}
+use Rattle.serial.specs.Ascii.{ascii}
 use Rattle.refusal.specs.Words.{table, wordsOf, writtenOf}
 
 -- two texts are the same

@@ -1,4 +1,4 @@
--- `counter::orders::is_word` meets its contract: the loop gathers one test for each byte.
+-- `serial::same_text` meets its contract: the loop gathers one test for each byte.
 use Prim.Native.Nat.{ℕ, _-_, _≤_}
 use mathlib.Core.Path.{_≡_, ap, _∙_}
 use mathlib.Core.Bool.{Bool, _&&_}
@@ -6,12 +6,12 @@ use native.Mathlib.Omega.{arith}
 use lib.Dec.{eqb}
 use lib.ListN.{length, getD}
 use denote.Ref.{now}
 use Rattle.serial.specs.Every.{every}
 use Rattle.serial.proofs.Every.{gather-none, gather-step}
-use Rattle.counter.specs.Orders.{isWord}
+use Rattle.serial.specs.Texts.{sameText}
 use borrow.Author.Needs.{needs}
-use Rattle.counter.proofs.orders.is_word.Statement.{statement}
-use Rattle.counter.proofs.orders.is_word.Tie as tie
+use Rattle.serial.proofs.same_text.Statement.{statement}
+use Rattle.serial.proofs.same_text.Tie as tie
 
 abbrev Inv-loop : tie.InvT-loop
 Inv-loop a b same₀ k₀ same k = (k ≤ length a) × (same ≡ (eqb (length a) (length b) && every (λ (i : ℕ). eqb (getD a i 0) (getD b i 0)) k))
@@ -47,14 +47,14 @@ loop-again c =
     )
 
 returns : tie.Need-returns Inv-loop μ-loop
-unfolding isWord
+unfolding sameText
 returns c =
     let l = c .before .loop in
     let e : l .k ≡ length (now (c .before .before .before .before .args .a)) = omega arith in
     rw e at (l .inv .1)
 
-pub is-word-spec : {M : Type 1} → statement M
-is-word-spec =
+pub same-text-spec : {M : Type 1} → statement M
+same-text-spec =
     tie.close
     (tie.spec
     Inv-loop

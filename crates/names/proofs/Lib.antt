@@ -1,0 +1,3 @@
+-- Laws of the names' tables, and what the contracts decide.
+pub mod Whole
+pub mod Decided
