@@ -11,6 +11,7 @@ use Rattle.aberzhan.specs.declared.Module.{Module}
 use Rattle.aberzhan.specs.Module.{startOf}
 use Rattle.console.specs.declared.input.Session.{Session}
 use Rattle.console.specs.declared.turns.Turn.{Turn}
+use Rattle.console.specs.Texts.{withoutReturn}
 use Rattle.console.specs.Turns.{turnOf}
 use Rattle.console.specs.Answers.{answerText}
 
@@ -32,12 +33,13 @@ lineTurn m line = turnOf 8192 8192 m line
 -- a line ends: the module goes on, and the answer is said
 unfoldable pub ended : Talk → Talk
 ended t =
-    cond (silent (t .kept)) (record { state = t .state; kept = []; said = t .said })
-    (record { state = lineTurn (t .state) (t .kept) .after; kept = []; said = t .said ++ answerText (lineTurn (t .state) (t .kept)) })
+    let line = withoutReturn (t .kept) in
+    cond (silent line) (record { state = t .state; kept = []; said = t .said })
+    (record { state = lineTurn (t .state) line .after; kept = []; said = t .said ++ answerText (lineTurn (t .state) line) })
 
--- more bytes of a line; of a line that is too long to be read, 131,072 bytes tell that it is
+-- more bytes of a line; of a line that is too long to be read, 131,073 bytes tell that it is, a carriage return among them or not
 unfoldable pub keeping : Talk → List ℕ → Talk
-keeping t bytes = record { state = t .state; kept = take 131072 (t .kept ++ bytes); said = t .said }
+keeping t bytes = record { state = t .state; kept = take 131073 (t .kept ++ bytes); said = t .said }
 
 -- the bytes of the input one after another: a line feed (10) ends a line
 unfoldable pub talked : Talk → List ℕ → Talk
@@ -66,16 +68,16 @@ written s = record { «module» = s .«module»; kept = s .kept; used = 0 }
 -- the bytes kept are in the line's buffer, and those of the answers in theirs, with room for so many more; and what the buffers hold
 pub record Ready (s : Session) (line out : List ℕ) (v i : List ℤ) (answers : ℕ) : Type 0 where
   pub kept : s .kept ≤ length line
-  pub used : s .used + 64 * answers ≤ length out
-  pub line-room : length line ≡ 131072
+  pub used : s .used + 1024 * answers ≤ length out
+  pub line-room : length line ≡ 131073
   pub v-room : length v ≡ 8192
   pub i-room : length i ≡ 8192
 
--- a read of 4,096 bytes ends at most so many lines, and no answer is longer than 64 bytes
+-- a read of 1,024 bytes ends at most so many lines, and no answer is longer than that many bytes
 pub record Rooms (chunk line out : List ℕ) (v i : List ℤ) : Type 0 where
-  pub chunk-room : length chunk ≡ 4096
-  pub line-room : length line ≡ 131072
-  pub out-room : length out ≡ 262144
+  pub chunk-room : length chunk ≡ 1024
+  pub line-room : length line ≡ 131073
+  pub out-room : length out ≡ 1048576
   pub v-room : length v ≡ 8192
   pub i-room : length i ≡ 8192
 

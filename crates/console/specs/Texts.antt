@@ -11,10 +11,6 @@ beginsWith [] text = true
 beginsWith (w ∷ ws) [] = false
 beginsWith (w ∷ ws) (c ∷ cs) = eqb c w && beginsWith ws cs
 
--- a text is a word: as long, and begins with it
-unfoldable pub isWord : List ℕ → List ℕ → Bool
-isWord word text = eqb (length text) (length word) && beginsWith word text
-
 -- how far it is to a byte, such as the space (32) that ends an item; without one, to the end
 unfoldable pub lengthTo : ℕ → List ℕ → ℕ
 lengthTo stop [] = 0

@@ -3,11 +3,11 @@ use Prim.Native.Nat.{ℕ}
 use mathlib.Core.Bool.{cond}
 use mathlib.Core.List.{List, [], _∷_}
 use Rattle.serial.specs.Ascii.{ascii}
+use Rattle.serial.specs.Texts.{sameText}
 use Rattle.console.specs.declared.words.Word.{Word}
 use Rattle.console.specs.declared.words.Word.the-variants.{Start, Open, Write, Commit, Drop, Hold, Read, Block, Cards, Help, Other}
 use Rattle.console.specs.declared.words.Kind.{Kind}
 use Rattle.console.specs.declared.words.Kind.the-variants.{Number, Field, Slot, Register}
-use Rattle.console.specs.Texts.{isWord}
 
 -- a word's letters
 unfoldable pub lettersOf : Word → List ℕ
@@ -29,7 +29,7 @@ words = Start ∷ Open ∷ Write ∷ Commit ∷ Drop ∷ Hold ∷ Read ∷ Block
 -- the one of some words that an item is
 abbrev pub firstOf : List Word → List ℕ → Word
 firstOf [] item = Other
-firstOf (w ∷ ws) item = cond (isWord (lettersOf w) item) w (firstOf ws item)
+firstOf (w ∷ ws) item = cond (sameText (lettersOf w) item) w (firstOf ws item)
 
 unfoldable pub wordOf : List ℕ → Word
 wordOf item = firstOf words item

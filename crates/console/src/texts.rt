@@ -1,6 +1,6 @@
 // Words, and the items of a line, which one space parts.
 ghost use mathlib.Core.Path.{_≡_};
-ghost use Rattle.console.specs.Texts.{beginsWith, isWord, lengthTo, withoutReturn};
+ghost use Rattle.console.specs.Texts.{beginsWith, lengthTo, withoutReturn};
 ghost use lib.ListN.{length};
 
 // Whether a text begins with a word.
@@ -18,16 +18,6 @@ pub(super) fn begins(text: &[u8], word: &[u8]) -> bool
         k += 1;
     }
     true
-}
-
-// Whether a text is a word.
-pub(super) fn is_word(text: &[u8], word: &[u8]) -> bool
-    ensures { λ r. ⌜ r ≡ isWord (now (word .entry)) (now (text .entry)) ⌝ }
-{
-    if text.len() == word.len() {
-        return begins(text, word);
-    }
-    false
 }
 
 // How long a line is without the carriage return that may stand before its end.

@@ -4,7 +4,7 @@ ghost use Prim.Native.Nat.{_≤_, _<_};
 ghost use lib.ListN.{length, getD};
 ghost use Rattle.console.specs.declared.words.Kind.the-variants as «kind»;
 ghost use Rattle.console.specs.Words.{wordOf, itemsOf};
-use super::texts::is_word;
+use serial::same_text;
 
 pub enum Word {
     Start,
@@ -32,34 +32,34 @@ pub enum Kind {
 pub(super) fn first_word(item: &[u8]) -> Word
     ensures { λ r. ⌜ r ≡ wordOf (now (item .entry)) ⌝ }
 {
-    if is_word(item, b"start") {
+    if same_text(b"start", item) {
         return Word::Start;
     }
-    if is_word(item, b"open") {
+    if same_text(b"open", item) {
         return Word::Open;
     }
-    if is_word(item, b"write") {
+    if same_text(b"write", item) {
         return Word::Write;
     }
-    if is_word(item, b"commit") {
+    if same_text(b"commit", item) {
         return Word::Commit;
     }
-    if is_word(item, b"drop") {
+    if same_text(b"drop", item) {
         return Word::Drop;
     }
-    if is_word(item, b"hold") {
+    if same_text(b"hold", item) {
         return Word::Hold;
     }
-    if is_word(item, b"read") {
+    if same_text(b"read", item) {
         return Word::Read;
     }
-    if is_word(item, b"block") {
+    if same_text(b"block", item) {
         return Word::Block;
     }
-    if is_word(item, b"cards") {
+    if same_text(b"cards", item) {
         return Word::Cards;
     }
-    if is_word(item, b"help") {
+    if same_text(b"help", item) {
         return Word::Help;
     }
     Word::Other
