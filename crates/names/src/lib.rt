@@ -1,10 +1,11 @@
 // The names of document 01, and which number each stands for: a card's field its number, a register its word address.
 ghost use mathlib.Core.Path.{_≡_};
 ghost use mathlib.Core.Bool.{true};
-ghost use Prim.Native.Nat.{_<_};
+ghost use Prim.Native.Nat.{_+_, _*_, _≤_};
+ghost use lib.ListN.{length};
 ghost use Rattle.serial.specs.Texts.{sameText};
 ghost use Rattle.names.specs.Names.{namedIn, fieldNamed, registerNamed};
-ghost use Rattle.names.specs.Inside.{rowAt, rowsOf, rowsOk};
+ghost use Rattle.names.specs.Inside.{lettersAt, rowAt, rowsOf, rowsOk};
 
 // What a name stands for.
 pub enum Named {
@@ -48,13 +49,14 @@ const REGISTERS: [u8; 336] = *b"\
     \x7C\x04MAX6          \
 ";
 
-// Whether the name in row k of n is this text.
-fn is_name(rows: &[u8], n: usize, k: usize, text: &[u8]) -> bool
-    requires { ⌜ (rowsOk (now rows) n ≡ true) × (k < n) ⌝ }
+// Whether the name in row k is this text.
+fn is_name(rows: &[u8], k: usize, text: &[u8]) -> bool
+    requires { ⌜ (16 * k + 16 ≤ length (now rows)) × (lettersAt (now rows) k ≤ 14) ⌝ }
     ensures { λ r. ⌜ r ≡ sameText (rowAt (now (rows .entry)) k .0) (now (text .entry)) ⌝ }
 {
+    let letters = rows[16 * k + 1] as usize;
     let from = 16 * k + 2;
-    let end = from + rows[from - 1] as usize;
+    let end = from + letters;
     serial::same_text(&rows[from..end], text)
 }
 
@@ -65,8 +67,9 @@ fn number_in(rows: &[u8], n: usize, text: &[u8]) -> Named
 {
     let mut k: usize = 0;
     while k < n {
-        if is_name(rows, n, k, text) {
-            return Named::Is(rows[16 * k] as u32);
+        if is_name(rows, k, text) {
+            let number = serial::byte_at(rows, 16 * k);
+            return Named::Is(number as u32);
         }
         k += 1;
     }
