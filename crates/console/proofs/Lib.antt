@@ -4,6 +4,5 @@ pub mod NumberLaws
 pub mod ItemLaws
 pub mod WordLaws
 pub mod TurnLaws
-pub mod LineLaws
 pub mod SessionLaws
 pub mod Examples
