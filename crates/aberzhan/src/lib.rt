@@ -1,9 +1,11 @@
 // The module: two ports that stage cards and hold readings, before the meter.
 ghost use mathlib.Core.Path.{_≡_};
 ghost use Rattle.aberzhan.specs.Module.{withMeter, refusal, openOf, writeOf, commitOf, dropOf, notHeld, holdOf, readOf, blockOf, freshModule, startOf};
+ghost use Rattle.aberzhan.specs.Cards.{serialIf, cardsOf};
 ghost use Rattle.aberzhan.specs.Inside.{isPort, deskAt, holdAt, deskPut, holdPut, deskDid, committed, held};
 use address::ByteAddr;
 use address::WordAddr;
+use card::Card;
 use meter::Meter;
 use port::desks::Desk;
 use port::desks::Desked;
@@ -41,6 +43,18 @@ pub struct Holding {
 pub struct Looked {
     pub answer: Reading,
     pub after: Module,
+}
+
+// The serials of the card in force and of the card that waits; none where there is no such card.
+pub struct Cards {
+    pub force: Serial,
+    pub waiting: Serial,
+}
+
+fn serial_if(there: bool, c: Card) -> Serial
+    ensures { λ r. ⌜ r ≡ serialIf there c ⌝ }
+{
+    if there { c.serial } else { Serial::none() }
 }
 
 // Ports are 0 and 1.
@@ -283,5 +297,15 @@ impl Module {
             answer: said,
             after,
         }
+    }
+
+    // Which cards it has.
+    pub fn cards(self) -> Cards
+        ensures { λ r. ⌜ r ≡ cardsOf self ⌝ }
+    {
+        let m = self.meter;
+        let force = serial_if(m.forced, m.force);
+        let waiting = serial_if(m.waits, m.waiting);
+        Cards { force, waiting }
     }
 }

@@ -1,19 +1,17 @@
 -- A table in rows, searched one row after another.
 use Prim.Native.Nat.{ℕ, _+_, _*_, _≤_, _<_}
-use mathlib.Core.Path.{_≡_, refl, sym, ap, _∙_}
-use mathlib.Core.Bool.{Bool, true, false, cond, _&&_}
+use mathlib.Core.Path.{_≡_, refl, _∙_}
+use mathlib.Core.Bool.{true, false, cond}
 use mathlib.Core.List.{List, []}
 use native.Mathlib.Numerals.{add-one}
 use native.Mathlib.Omega.{arith}
 use lib.Dec.{eqb, leb}
-use lib.ListN.{length, getD, drop, drop-of-length-le}
+use lib.ListN.{length, drop, drop-of-length-le}
 use lib.Seq.{drop-cons}
 use borrow.Author.Tests.{eqb-true, leb-true}
-use Rattle.serial.specs.Every.{every}
 use Rattle.serial.specs.Texts.{sameText}
 use Rattle.serial.proofs.Every.{and-left, and-right, every-at}
 use Rattle.serial.proofs.Places.{length-tab, tab-at}
-use Rattle.names.specs.declared.Named.{Named}
 use Rattle.names.specs.declared.Named.the-variants.{Is, Not}
 use Rattle.names.specs.Names.{namedIn}
 use Rattle.names.specs.Inside.{lettersAt, rowAt, rowsOf, rowsOk}
