@@ -34,7 +34,7 @@ held = refl
 
 -- nothing is in force yet, a card waits
 cards : saidText said.Cards 0 noSerial label ≡ ascii "ok - 0417" ++ end
-unfolding saidText cardsLine cardText digitsText ascii noSerial
+unfolding saidText cardsLine cardText digitsText ascii
 cards = refl
 
 -- a carriage return belongs to the line's end only right before it

@@ -21,33 +21,33 @@ module _ (w : Word) (ws : List Word) (item : List ℕ) where
 -- the slots of a start
 pub slot-at : (k : ℕ) → 2 ≤ k → k < 8 → getD (itemsOf Start) k kind.Number ≡ kind.Slot
 unfolding itemsOf
-slot-at 0 l h = absurd (omega arith)
-slot-at 1 l h = absurd (omega arith)
-slot-at 2 l h = refl
-slot-at 3 l h = refl
-slot-at 4 l h = refl
-slot-at 5 l h = refl
-slot-at 6 l h = refl
-slot-at 7 l h = refl
+slot-at zero l h = absurd (omega arith)
+slot-at (suc zero) l h = absurd (omega arith)
+slot-at (suc (suc zero)) l h = refl
+slot-at (suc (suc (suc zero))) l h = refl
+slot-at (suc (suc (suc (suc zero)))) l h = refl
+slot-at (suc (suc (suc (suc (suc zero))))) l h = refl
+slot-at (suc (suc (suc (suc (suc (suc zero)))))) l h = refl
+slot-at (suc (suc (suc (suc (suc (suc (suc zero))))))) l h = refl
 slot-at (suc (suc (suc (suc (suc (suc (suc (suc k)))))))) l h = absurd (omega arith)
 
 pub start-number : (k : ℕ) → k < 2 → getD (itemsOf Start) k kind.Number ≡ kind.Number
 unfolding itemsOf
-start-number 0 h = refl
-start-number 1 h = refl
+start-number zero h = refl
+start-number (suc zero) h = refl
 start-number (suc (suc k)) h = absurd (omega arith)
 
 pub write-number : (k : ℕ) → k < 3 → (k ≡ 1 → ⊥) → getD (itemsOf Write) k kind.Number ≡ kind.Number
 unfolding itemsOf
-write-number 0 l h = refl
-write-number 1 l h = absurd (h refl)
-write-number 2 l h = refl
+write-number zero l h = refl
+write-number (suc zero) l h = absurd (h refl)
+write-number (suc (suc zero)) l h = refl
 write-number (suc (suc (suc k))) l h = absurd (omega arith)
 
 pub read-number : (k : ℕ) → (k ≡ 1 → ⊥) → getD (itemsOf Read) k kind.Number ≡ kind.Number
 unfolding itemsOf
-read-number 0 h = refl
-read-number 1 h = absurd (h refl)
+read-number zero h = refl
+read-number (suc zero) h = absurd (h refl)
 read-number (suc (suc k)) h = refl
 
 -- the one item of a step

@@ -2,7 +2,6 @@
 ghost use mathlib.Core.Path.{_≡_};
 ghost use mathlib.Core.List.{_++_};
 ghost use Prim.Native.Nat.{_+_, _≤_};
-ghost use Prim.Native.String.{String};
 ghost use lib.ListN.{length, take};
 ghost use Rattle.serial.specs.Ascii.{ascii};
 ghost use Rattle.console.specs.Unread.{whyWords};

@@ -11,7 +11,7 @@ use super::texts::length_to;
 use super::words::Kind;
 use super::words::Word;
 use super::words::arity;
-use super::words::kind;
+use super::words::kind_at;
 use address::WordAddr;
 use address::byte_of;
 use names::Named;
@@ -103,7 +103,7 @@ pub(super) fn take_items(w: Word, text: &[u8], into: &mut [i64; 8]) -> Row
     let mut count = 0;
     let mut at = 0;
     while count < most {
-        let k = kind(w, count);
+        let k = kind_at(w, count);
         match next_item(k, &text[at..]) {
             Next::Number(x, n) => {
                 into[count] = x;

@@ -17,7 +17,7 @@ use super::words::Kind;
 use super::words::Word;
 use super::words::arity;
 use super::words::first_word;
-use super::words::kind;
+use super::words::kind_at;
 use aberzhan::Cards;
 use aberzhan::Holding;
 use aberzhan::Looked;
@@ -194,7 +194,7 @@ fn with_items(m: Module, w: Word, rest: &[u8]) -> Turn
     let n = take_items(w, rest, &mut x);
     let at = n.taken;
     if n.count < arity(w) {
-        let k = kind(w, n.count);
+        let k = kind_at(w, n.count);
         return unread(m, stopped_at(k, &rest[at..]));
     }
     if at < rest.len() {

@@ -33,7 +33,11 @@ fn not_a(k: Kind) -> Why
 pub(super) fn stopped_at(k: Kind, behind: &[u8]) -> Why
     ensures { λ r. ⌜ r ≡ stoppedAt k (now (behind .entry)) ⌝ }
 {
-    if behind.len() == 0 { Why::Missing } else { not_a(k) }
+    if behind.len() == 0 {
+        Why::Missing
+    } else {
+        not_a(k)
+    }
 }
 
 // Behind `count` samples of a side, which has room for so many, the line has neither a sample nor what ends the side.
@@ -43,5 +47,9 @@ pub(super) fn side_stopped(room: usize, count: usize, behind: &[u8]) -> Why
     if behind.len() == 0 {
         return Why::NoBar;
     }
-    if count == room { Why::TooMany } else { Why::NotSample }
+    if count == room {
+        Why::TooMany
+    } else {
+        Why::NotSample
+    }
 }

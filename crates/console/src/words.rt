@@ -85,20 +85,14 @@ pub(super) fn arity(w: Word) -> usize
 }
 
 // What must stand as its kth item.
-pub(super) fn kind(w: Word, k: usize) -> Kind
+pub(super) fn kind_at(w: Word, k: usize) -> Kind
     requires { ⌜ k < length (itemsOf w) ⌝ }
     ensures { λ r. ⌜ r ≡ getD (itemsOf w) k «kind».Number ⌝ }
 {
     match w {
-        Word::Start => {
-            if k < 2 { Kind::Number } else { Kind::Slot }
-        }
-        Word::Write => {
-            if k == 1 { Kind::Field } else { Kind::Number }
-        }
-        Word::Read => {
-            if k == 1 { Kind::Register } else { Kind::Number }
-        }
+        Word::Start => { if k < 2 { Kind::Number } else { Kind::Slot } }
+        Word::Write => { if k == 1 { Kind::Field } else { Kind::Number } }
+        Word::Read => { if k == 1 { Kind::Register } else { Kind::Number } }
         Word::Open => Kind::Number,
         Word::Commit => Kind::Number,
         Word::Drop => Kind::Number,
