@@ -12,7 +12,7 @@ use Rattle.aberzhan.specs.declared.Cards.{Cards}
 use Rattle.aberzhan.specs.Ports.{aberzhan}
 use Rattle.aberzhan.specs.Cards.{serialIf, cardsOf}
 use Rattle.aberzhan.proofs.Contracts.{shown-is}
-use Rattle.demands.specs.Program.{Program, first}
+use Rattle.demands.specs.Program.{first}
 use Rattle.demands.specs.Beginning.{Fresh}
 use Rattle.demands.specs.Cards.{inWait, serialShown, CardsShown}
 use Rattle.demands.proofs.Beginning.{every-start}

@@ -60,11 +60,12 @@ fn is_name(rows: &[u8], k: usize, text: &[u8]) -> bool
     serial::same_text(&rows[from..end], text)
 }
 
-// The number of the first of n rows whose name is this text.
-fn number_in(rows: &[u8], n: usize, text: &[u8]) -> Named
-    requires { ⌜ rowsOk (now rows) n ≡ true ⌝ }
-    ensures { λ r. ⌜ r ≡ namedIn (rowsOf (now (rows .entry)) n) (now (text .entry)) ⌝ }
+// The number of the first row whose name is this text.
+fn number_in(rows: &[u8], text: &[u8]) -> Named
+    requires { ⌜ rowsOk (now rows) ≡ true ⌝ }
+    ensures { λ r. ⌜ r ≡ namedIn (rowsOf (now (rows .entry))) (now (text .entry)) ⌝ }
 {
+    let n = rows.len() / 16;
     let mut k: usize = 0;
     while k < n {
         if is_name(rows, k, text) {
@@ -81,7 +82,7 @@ pub fn field(text: &[u8]) -> Named
     ensures { λ r. ⌜ r ≡ fieldNamed (now (text .entry)) ⌝ }
 {
     let rows = FIELDS;
-    number_in(&rows, 8, text)
+    number_in(&rows, text)
 }
 
 // The word address of the register with this name.
@@ -89,5 +90,5 @@ pub fn register(text: &[u8]) -> Named
     ensures { λ r. ⌜ r ≡ registerNamed (now (text .entry)) ⌝ }
 {
     let rows = REGISTERS;
-    number_in(&rows, 21, text)
+    number_in(&rows, text)
 }
