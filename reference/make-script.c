@@ -216,15 +216,15 @@ static int something(struct belief *belief)
         put_refused_start();
     else if (what < 65)
         put_oddity();
-    else if (what < 75)
+    else if (what < 80)
         put_odd_name();
-    else if (what < 95)
+    else if (what < 100)
         put_silence();
-    else if (what < 98)
+    else if (what < 103)
         put_help();
-    else if (what < 120)
+    else if (what < 125)
         put_cards();
-    else if (what < 150)
+    else if (what < 155)
         return whole_card(belief, port);
     else if (what < 450)
         at_desk(belief, port);

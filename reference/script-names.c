@@ -44,7 +44,8 @@ static void put_nearly_name(void)
                                           "MIN10",    "OFF",          "VB_RMS", "W",     "GAIN", "VA",
                                           "IB_CREST", "PA_POS_COUNT", "WATT-A", "0xPFA", "-PFA", "0PFA",
                                           "PFA|",     "VA_RMS,",      "FIELD",  "MIN 1", "min1", "Max2"};
-    uint64_t how = draw(5);
+    uint64_t how = draw(6);
+    int slot = (int)PICK(0, 7, 7, 8, 10);
 
     if (how == 0)
         put_small(any_name());
@@ -54,6 +55,8 @@ static void put_nearly_name(void)
         put_shorter(any_name());
     else if (how == 3)
         fputs(no_name[draw(sizeof no_name / sizeof no_name[0])], stdout);
+    else if (how == 4)
+        printf("%s%d", chance(50) ? "MIN" : "MAX", slot);
     else
         fputs(any_name(), stdout);
 }
