@@ -8,7 +8,8 @@ REGISTERS = {0x2B: "VA_RMS", 0x3E: "IA_RMS", 0x46: "IA_PEAK", 0x4B: "WATT_A", 0x
 FIELD_NAMES = {name: k for k, name in enumerate(FIELDS, 1)}
 WORDS = {name: word for word, name in REGISTERS.items()}
 BYTES = {name: 3 * word for word, name in REGISTERS.items()}
-STEPS = ("start", "open", "write", "commit", "drop", "hold", "read", "block")
+STEPS = ("start", "open", "write", "commit", "drop", "hold", "read", "block", "cards")
+NO_PORT = ("start", "block", "cards")
 LANES = {"module": "the module", "fitter 0": "fitter, port 0", "fitter 1": "fitter, port 1",
          "reader 0": "reader, port 0", "reader 1": "reader, port 1"}
 # A colour for lines and text, and a light one for areas; cards take them in turn.
@@ -54,18 +55,17 @@ class Box:
 class Session:
     """What happened, from the steps and their answers."""
 
-    def __init__(self, steps, keeps):
-        self.keeps = keeps      # whether a refused start keeps the module
-        self.volts, self.amps, self.intervals, self.cards, self.boxes, self.starts = [], [], [], [], [], []
+    def __init__(self, steps):
+        self.volts, self.amps, self.intervals, self.all_cards, self.boxes, self.starts = [], [], [], [], [], []
         self.running = None     # where the interval that runs began
         self.begin(1, 0)
         for line, answer in steps:
             self.line, self.answer, self.ok = line, answer, answer.split(" ")[0] == "ok"
-            words = line.removesuffix("\r").split(" ")
+            words = line.split(" ")
             if answer.startswith("UNREAD"):
-                self.say("module", f"{line[:28]}: {answer}", RED)
+                self.say_no("module", line[:28])
             elif words[0] in STEPS:
-                ports = [] if words[0] in ("start", "block") else [number(words[1])]
+                ports = [] if words[0] in NO_PORT else [number(words[1])]
                 getattr(self, words[0])(*ports, *words[1 + len(ports):])
         self.begin(1, len(self.volts))
 
@@ -87,20 +87,26 @@ class Session:
             last.colour = box_colour
         last.lines.append((line, colour))
 
+    def say_no(self, lane, said):
+        """The answer's word and number, and its reason on a line of its own."""
+        no, colon, why = self.answer.partition(":")
+        self.say(lane, f"{said}: {no}{colon}", RED)
+        if why:
+            self.say(lane, why.strip(), RED)
+
     def refused(self, lane, said):
         if not self.ok:
-            self.say(lane, f"{said}: {self.answer}", RED)
+            self.say_no(lane, said)
         return not self.ok
 
     def start(self, n, bucket, *slots):
         at = len(self.volts)
         if self.refused("module", "start"):
-            if not self.keeps:
-                self.begin(1, at)
             return
         self.starts.append(at)
         self.begin(number(n), at)
-        self.say("module", f"start: {number(n):,} samples an interval, bucket {number(bucket):,}")
+        self.say("module", f"start: {number(n):,} samples an interval")
+        self.say("module", f"bucket {number(bucket):,}")
         tracked = [f"{k + 1} {REGISTERS[number(word, WORDS)]}" for k, word in enumerate(slots) if number(word, WORDS)]
         self.say("module", f"tracks in slot {', '.join(tracked)}" if tracked else "no slot tracks")
 
@@ -138,7 +144,7 @@ class Session:
         if self.waiting:
             self.waiting.end = "replaced before any sample"
         self.waiting, card.committed, card.end = card, len(self.volts), "waits to the end"
-        self.cards.append(card)
+        self.all_cards.append(card)
         self.say(lane, lambda: f"committed, {card.end}")
         card.box = self.boxes[-1]
 
@@ -167,11 +173,18 @@ class Session:
         self.running = at = len(self.volts)
         if self.waiting:
             self.force, self.waiting = self.waiting, None
-            same = sum(card.serial == self.force.serial and card.first is not None for card in self.cards)
+            same = sum(card.serial == self.force.serial and card.first is not None for card in self.all_cards)
             self.force.first, self.force.end = at, f"counts from sample {at - self.origin + 1} on"
-            self.force.colour = COLOURS[sum(card.first is not None for card in self.cards[:-1]) % len(COLOURS)]
+            self.force.colour = COLOURS[sum(card.first is not None for card in self.all_cards[:-1]) % len(COLOURS)]
             self.force.name += f" (no. {same + 1})" if same else ""
             self.force.box.colour = self.force.colour
+
+    def cards(self):
+        force, waiting = (card.serial if card else "-" for card in (self.force, self.waiting))
+        if self.answer != f"ok {force} {waiting}":
+            raise Wrong(f"{self.line}: answered {self.answer!r}, but by the steps before it that is {force} in force and {waiting} waiting")
+        force, waiting = (serial.replace("-", "none") for serial in (force, waiting))
+        self.say("module", f"cards: {force} in force, {waiting} waits")
 
     def hold(self, port):
         if self.refused(f"reader {port}", "hold"):
@@ -196,20 +209,18 @@ class Session:
 
 
 def steps_of(script, answers):
-    """Each line that has an answer, with it; `help` may be answered by lines that begin with #."""
-    lines, answers = ([line for line in text.split("\n") if line and not line.startswith("#")] for text in (script, answers))
-    if len(lines) != len(answers):
-        lines = [line for line in lines if line != "help"]
+    """Each line that has an answer, with it; `help` is left out, its answer is lines that begin with #."""
+    lines = [line.removesuffix("\r") for line in script.split("\n")]
+    lines, answers = ([line for line in some if line and not line.startswith("#")] for some in (lines, answers.split("\n")))
+    lines = [line for line in lines if line != "help"]
     if len(lines) != len(answers):
         raise Wrong(f"{len(lines)} steps and {len(answers)} answers")
     return list(zip(lines, answers))
 
 
 def session_of(steps):
-    """The session that fits the answers: a start that is refused in its course leaves a fresh module, or keeps it, by the console's age."""
-    for keeps in (False, True):
-        try:
-            return Session(steps, keeps)
-        except (Wrong, LookupError, AttributeError) as error:
-            said = said if keeps else error
-    raise said if isinstance(said, Wrong) else Wrong(f"the answers do not fit the steps ({said!r})")
+    """The session, where the answers fit the steps."""
+    try:
+        return Session(steps)
+    except (LookupError, AttributeError, TypeError, ValueError) as error:
+        raise Wrong(f"the answers do not fit the steps ({error!r})") from error
