@@ -74,6 +74,11 @@ all-samples (suc n) zero = refl
 all-samples (suc n) (suc k) = all-samples n k
 
 -- ---- the loop
+-- a step that has no more items
+pub full : (ks : List Kind) (count : ℕ) (t : List ℕ) → length ks ≤ count → rowOf (drop count ks) t ≡ none
+unfolding rowOf
+full ks count t h = rw (drop-of-length-le ks) refl
+
 module _ (ks : List Kind) (text : List ℕ) where
   pub record Going (into : List ℤ) (count at : ℕ) : Type 0 where
     pub inside : at ≤ length text
@@ -108,10 +113,6 @@ module _ (ks : List Kind) (text : List ℕ) where
 
     pub another : nextOf (getD ks count d) (drop at text) ≡ next.Not → rowOf (drop count ks) (drop at text) ≡ none
     another e = rw (row-next, e) refl
-
-  pub full : (count : ℕ) (t : List ℕ) → length ks ≤ count → rowOf (drop count ks) t ≡ none
-  unfolding rowOf
-  full count t h = rw (drop-of-length-le ks) refl
 
   -- no more
   pub ended : (into : List ℤ) (count at : ℕ) → Going into count at → rowOf (drop count ks) (drop at text) ≡ none → Filled (record { count = count; taken = at }) into (rowOf ks text)

@@ -3,6 +3,8 @@ pub mod TextLaws
 pub mod NumberLaws
 pub mod ItemLaws
 pub mod WordLaws
+pub mod UnreadLaws
 pub mod TurnLaws
+pub mod AnswerLaws
 pub mod SessionLaws
 pub mod Examples

@@ -17,6 +17,17 @@ use Rattle.console.specs.Texts.{lengthTo, withoutReturn}
 use Rattle.console.specs.Answers.{answerText}
 use Rattle.console.specs.Session.{Talk, silent, lineTurn, ended, keeping, talked, begin, answersTo, OneTalk}
 
+-- ---- a line that has no answer
+pub silent-empty : (line : List ℕ) → length line ≡ 0 → true ≡ silent line
+unfolding silent
+silent-empty [] e = refl
+silent-empty (c ∷ cs) e = absurd (omega arith)
+
+pub silent-other : (line : List ℕ) → (length line ≡ 0 → ⊥) → eqb (getD line 0 0) 35 ≡ silent line
+unfolding silent
+silent-other [] h = absurd (h refl)
+silent-other (c ∷ cs) h = refl
+
 -- ---- a line's end
 -- what is cut off a line that ends with a carriage return
 pub cut-return : (line : List ℕ) → take (length (withoutReturn line)) line ≡ withoutReturn line

@@ -73,11 +73,11 @@ pub record Ready (s : Session) (line out : List ℕ) (v i : List ℤ) (answers :
   pub v-room : length v ≡ 8192
   pub i-room : length i ≡ 8192
 
--- a read of 1,024 bytes ends at most so many lines, and no answer is longer than that many bytes
+-- a read of 256 bytes ends at most so many lines, and no answer is longer than 1,024 bytes
 pub record Rooms (chunk line out : List ℕ) (v i : List ℤ) : Type 0 where
-  pub chunk-room : length chunk ≡ 1024
+  pub chunk-room : length chunk ≡ 256
   pub line-room : length line ≡ 131073
-  pub out-room : length out ≡ 1048576
+  pub out-room : length out ≡ 262144
   pub v-room : length v ≡ 8192
   pub i-room : length i ≡ 8192
 

@@ -96,7 +96,8 @@ pub(super) fn next_item(k: Kind, text: &[u8]) -> Next
 }
 
 // Takes the items of a step into a lent buffer, until another thing comes or the step has no more.
-pub(super) fn take_items(w: Word, text: &[u8], into: &mut [i64; 8]) -> Row
+pub(super) fn take_items(w: Word, text: &[u8], into: &mut [i64]) -> Row
+    requires { ⌜ 8 ≤ length (now into) ⌝ }
     ensures { λ r. ⌜ Filled r (now (into .exit)) (rowOf (itemsOf w) (now (text .entry))) ⌝ }
 {
     let most = arity(w);

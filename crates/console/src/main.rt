@@ -10,10 +10,10 @@ mod unread;
 mod words;
 
 fn main() {
-    let mut chunk = [0u8; 1024];
+    let mut chunk = [0u8; 256];
     let mut line = [0u8; 131073];
     let mut v = [0i32; 8192];
     let mut i = [0i32; 8192];
-    let mut out = [0u8; 1048576];
+    let mut out = [0u8; 262144];
     input::run(&mut chunk, &mut line, &mut v, &mut i, &mut out);
 }

@@ -1,8 +1,11 @@
 -- `cards_line` is the line of the two serials.
-use mathlib.Core.List.{append-assoc}
+use Rattle.console.proofs.AnswerLaws.{and-then}
 use native.Mathlib.Omega.{arith}
 use Rattle.serial.specs.Ascii.{ascii}
-use Rattle.console.specs.Answers.{cardsLine}
+use Rattle.console.specs.Answers.{end, cardText, cardsLine}
+use mathlib.Core.List.{_++_}
+use denote.Ref.{now}
+use lib.ListN.{take}
 use borrow.Author.Needs.{needs}
 use Rattle.console.proofs.answers.cards_line.Statement.{statement}
 use Rattle.console.proofs.answers.cards_line.Tie as tie
@@ -36,13 +39,19 @@ same-length c = search needs
 
 returns : tie.Need-returns
 unfolding cardsLine ascii
-returns c = 
+returns c =
+    let s = c .before .before .before .before .before .before .before .before .before .before .before .before .before .before .before .before .before .before .before .before .before .before .before .before in
     let a = c .before .before .before .before .before .before .before .before .before .before .before .before .before .before .before .before .before .before .before .before .put .ensures in
     let b = c .before .before .before .before .before .before .before .before .before .before .before .before .before .before .before .before .put-card .ensures in
     let d = c .before .before .before .before .before .before .before .before .before .before .before .put2 .ensures in
     let e = c .before .before .before .before .before .before .before .put-card2 .ensures in
-    let f = c .before .before .put3 .ensures in
-    (simp (f .0, e .0, d .0, b .0, a .0, append-assoc), omega (arith, a .1, b .1, d .1, e .1, f .1))
+    let f = c .before .before .put3 .ensures in (
+      and-then (take (s .args .used) (now (s .args .out))) (ascii "ok " ++ cardText (s .args .force) ++ ascii " " ++ cardText (s .args .waiting)) end
+          (and-then (take (s .args .used) (now (s .args .out))) (ascii "ok " ++ cardText (s .args .force) ++ ascii " ") (cardText (s .args .waiting))
+          (and-then (take (s .args .used) (now (s .args .out))) (ascii "ok " ++ cardText (s .args .force)) (ascii " ") (and-then (take (s .args .used) (now (s .args .out))) (ascii "ok ") (cardText (s .args .force)) (a .0) (b .0)) (d .0)) (e .0)) (f .0),
+      omega (arith, a .1, b .1, d .1, e .1, f .1),
+    )
+
 pub cards-line-spec : {M : Type 1} → statement M
 cards-line-spec =
     tie.close

@@ -1,11 +1,14 @@
 -- `held_line` is the line of an accepted hold.
-use mathlib.Core.List.{append-assoc}
+use Rattle.console.proofs.AnswerLaws.{and-then}
 use native.Mathlib.Omega.{arith}
 use mir.Syntax.{w64}
 use Rattle.number.proofs.Fits.{read32}
-use Rattle.decimal.specs.Decimals.{signedDecimal}
+use Rattle.decimal.specs.Decimals.{decimal, signedDecimal}
 use Rattle.serial.specs.Ascii.{ascii}
-use Rattle.console.specs.Answers.{heldLine}
+use Rattle.console.specs.Answers.{end, digitsText, heldLine}
+use mathlib.Core.List.{_++_}
+use denote.Ref.{now}
+use lib.ListN.{take}
 use borrow.Author.Needs.{needs}
 use Rattle.console.proofs.answers.held_line.Statement.{statement}
 use Rattle.console.proofs.answers.held_line.Tie as tie
@@ -42,14 +45,19 @@ same-length c = search needs
 
 returns : tie.Need-returns
 unfolding heldLine ascii signedDecimal
-returns c = 
+returns c =
     let s = c .before .before .before .before .before .before .before .before .before .before .before .before .before .before .before .before .before .before .before .before .before .before .before .before in
     let a = c .before .before .before .before .before .before .before .before .before .before .before .before .before .before .before .before .before .before .before .before .put .ensures in
     let b = rw (read32 (s .args .number) (s .fits .number)) at (c .before .before .before .before .before .before .before .before .before .before .before .before .before .before .before .before .put-number .ensures) in
     let d = c .before .before .before .before .before .before .before .before .before .before .before .put2 .ensures in
     let e = c .before .before .before .before .before .before .before .put-digits .ensures in
-    let f = c .before .before .put3 .ensures in
-    (simp (f .0, e .0, d .0, b .0, a .0, append-assoc), omega (arith, a .1, b .1, d .1, e .1, f .1))
+    let f = c .before .before .put3 .ensures in (
+      and-then (take (s .args .used) (now (s .args .out))) (ascii "ok " ++ decimal (s .args .number) ++ ascii " " ++ digitsText (s .args .serial)) end
+          (and-then (take (s .args .used) (now (s .args .out))) (ascii "ok " ++ decimal (s .args .number) ++ ascii " ") (digitsText (s .args .serial))
+          (and-then (take (s .args .used) (now (s .args .out))) (ascii "ok " ++ decimal (s .args .number)) (ascii " ") (and-then (take (s .args .used) (now (s .args .out))) (ascii "ok ") (decimal (s .args .number)) (a .0) (b .0)) (d .0)) (e .0)) (f .0),
+      omega (arith, a .1, b .1, d .1, e .1, f .1),
+    )
+
 pub held-line-spec : {M : Type 1} → statement M
 held-line-spec =
     tie.close

@@ -19,6 +19,7 @@ same-length c = search needs
 returns : tie.Need-returns
 unfolding helpText helpLines linesOf ascii
 returns c = (c .before .before .put .ensures .0, omega (arith, c .before .before .put .ensures .1))
+
 pub help-lines-spec : {M : Type 1} → statement M
 help-lines-spec =
     tie.close

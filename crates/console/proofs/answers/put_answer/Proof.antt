@@ -105,6 +105,7 @@ same-length-7 c = search needs
 returns-7 : tie.Need-returns-7
 unfolding answerText saidText
 returns-7 c = (rw (c .before .before .before .before .enum-told4 .given .1) (c .before .before .help-lines .ensures .0), omega (arith, c .before .before .help-lines .ensures .1))
+
 pub put-answer-spec : {M : Type 1} → statement M
 put-answer-spec =
     tie.close

@@ -165,6 +165,7 @@ same-length-10 c = search needs
 returns-10 : tie.Need-returns-10
 unfolding whyWords ascii
 returns-10 c = (simp (c .before .before .put10 .ensures .0, c .before .before .before .before .before .enum-told10 .given .1), omega (arith, c .before .before .put10 .ensures .1))
+
 pub put-why-spec : {M : Type 1} → statement M
 put-why-spec =
     tie.close

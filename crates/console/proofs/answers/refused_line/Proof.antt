@@ -1,12 +1,16 @@
 -- `refused_line` is the line of a refusal.
 use Prim.Native.Nat.{_<_}
-use mathlib.Core.List.{append-assoc}
+use Rattle.console.proofs.AnswerLaws.{and-then}
 use native.Mathlib.Omega.{arith}
 use mir.Syntax.{w64}
 use mir.Facts.{toZ-pos}
-use Rattle.decimal.specs.Decimals.{signedDecimal}
+use Rattle.decimal.specs.Decimals.{decimal, signedDecimal}
 use Rattle.serial.specs.Ascii.{ascii}
-use Rattle.console.specs.Answers.{refusedLine}
+use Rattle.console.specs.Answers.{end, refusedLine}
+use mathlib.Core.List.{_++_}
+use denote.Ref.{now}
+use lib.ListN.{take}
+use Rattle.refusal.specs.Words.{wordsOf}
 use borrow.Author.Needs.{needs}
 use Rattle.console.proofs.answers.refused_line.Statement.{statement}
 use Rattle.console.proofs.answers.refused_line.Tie as tie
@@ -43,15 +47,20 @@ same-length c = search needs
 
 returns : tie.Need-returns
 unfolding refusedLine ascii signedDecimal
-returns c = 
+returns c =
     let s = c .before .before .before .before .before .before .before .before .before .before .before .before .before .before .before .before .before .before .before .before .before .before .before .before in
     let small : s .args .number < 9223372036854775808 = omega (arith, s .fits .number) in
     let a = c .before .before .before .before .before .before .before .before .before .before .before .before .before .before .before .before .before .before .before .before .put .ensures in
     let b = rw (toZ-pos w64 small) at (c .before .before .before .before .before .before .before .before .before .before .before .before .before .before .before .before .put-number .ensures) in
     let d = c .before .before .before .before .before .before .before .before .before .before .before .put2 .ensures in
     let e = c .before .before .before .before .before .before .before .put-words .ensures in
-    let f = c .before .before .put3 .ensures in
-    (simp (f .0, e .0, d .0, b .0, a .0, append-assoc), omega (arith, a .1, b .1, d .1, e .1, f .1))
+    let f = c .before .before .put3 .ensures in (
+      and-then (take (s .args .used) (now (s .args .out))) (ascii "REFUSED " ++ decimal (s .args .number) ++ ascii ": " ++ wordsOf (s .args .number)) end
+          (and-then (take (s .args .used) (now (s .args .out))) (ascii "REFUSED " ++ decimal (s .args .number) ++ ascii ": ") (wordsOf (s .args .number))
+          (and-then (take (s .args .used) (now (s .args .out))) (ascii "REFUSED " ++ decimal (s .args .number)) (ascii ": ") (and-then (take (s .args .used) (now (s .args .out))) (ascii "REFUSED ") (decimal (s .args .number)) (a .0) (b .0)) (d .0)) (e .0)) (f .0),
+      omega (arith, a .1, b .1, d .1, e .1, f .1),
+    )
+
 pub refused-line-spec : {M : Type 1} → statement M
 refused-line-spec =
     tie.close

@@ -1,8 +1,12 @@
 -- `unread_line` is the line of a reason.
-use mathlib.Core.List.{append-assoc}
+use Rattle.console.proofs.AnswerLaws.{and-then}
 use native.Mathlib.Omega.{arith}
 use Rattle.serial.specs.Ascii.{ascii}
-use Rattle.console.specs.Answers.{unreadLine}
+use Rattle.console.specs.Unread.{whyWords}
+use mathlib.Core.List.{_++_}
+use denote.Ref.{now}
+use lib.ListN.{take}
+use Rattle.console.specs.Answers.{end, unreadLine}
 use borrow.Author.Needs.{needs}
 use Rattle.console.proofs.answers.unread_line.Statement.{statement}
 use Rattle.console.proofs.answers.unread_line.Tie as tie
@@ -27,11 +31,16 @@ same-length c = search needs
 
 returns : tie.Need-returns
 unfolding unreadLine ascii
-returns c = 
+returns c =
+    let s = c .before .before .before .before .before .before .before .before .before .before .before .before .before .before .before in
+    let words = ascii (whyWords (s .args .why)) in
     let a = c .before .before .before .before .before .before .before .before .before .before .before .put .ensures in
     let b = c .before .before .before .before .before .before .before .put-why .ensures in
-    let d = c .before .before .put2 .ensures in
-    (simp (d .0, b .0, a .0, append-assoc), omega (arith, a .1, b .1, d .1))
+    let d = c .before .before .put2 .ensures in (
+      and-then (take (s .args .used) (now (s .args .out))) (ascii "UNREAD: " ++ words) end (and-then (take (s .args .used) (now (s .args .out))) (ascii "UNREAD: ") words (a .0) (b .0)) (d .0),
+      omega (arith, a .1, b .1, d .1),
+    )
+
 pub unread-line-spec : {M : Type 1} → statement M
 unread-line-spec =
     tie.close

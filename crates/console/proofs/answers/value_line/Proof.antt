@@ -1,9 +1,13 @@
 -- `value_line` is the line of a register's value.
-use mathlib.Core.List.{append-assoc}
+use Rattle.console.proofs.AnswerLaws.{and-then}
 use native.Mathlib.Omega.{arith}
 use mir.Facts.{toZ-ofZ}
 use Rattle.serial.specs.Ascii.{ascii}
-use Rattle.console.specs.Answers.{valueLine}
+use Rattle.console.specs.Answers.{end, valueLine}
+use mathlib.Core.List.{_++_}
+use denote.Ref.{now}
+use lib.ListN.{take}
+use Rattle.decimal.specs.Decimals.{signedDecimal}
 use borrow.Author.Needs.{needs}
 use Rattle.console.proofs.answers.value_line.Statement.{statement}
 use Rattle.console.proofs.answers.value_line.Tie as tie
@@ -28,11 +32,16 @@ same-length c = search needs
 
 returns : tie.Need-returns
 unfolding valueLine ascii
-returns c = 
+returns c =
+    let s = c .before .before .before .before .before .before .before .before .before .before .before .before .before .before .before in
+    let words = signedDecimal (s .args .v) in
     let a = c .before .before .before .before .before .before .before .before .before .before .before .put .ensures in
     let b = rw (toZ-ofZ (c .before .before .before .before .before .before .before .before .before .before .before .before .before .before .before .fits .v)) at (c .before .before .before .before .before .before .before .put-number .ensures) in
-    let d = c .before .before .put2 .ensures in
-    (simp (d .0, b .0, a .0, append-assoc), omega (arith, a .1, b .1, d .1))
+    let d = c .before .before .put2 .ensures in (
+      and-then (take (s .args .used) (now (s .args .out))) (ascii "ok " ++ words) end (and-then (take (s .args .used) (now (s .args .out))) (ascii "ok ") words (a .0) (b .0)) (d .0),
+      omega (arith, a .1, b .1, d .1),
+    )
+
 pub value-line-spec : {M : Type 1} → statement M
 value-line-spec =
     tie.close

@@ -1,86 +1,102 @@
+-- `take_samples` takes samples until another thing comes or the buffer is full.
+use Prim.Native.Nat.{_-_, _≤_, _<_}
+use mathlib.Core.Path.{_≡_, refl, sym, ap, _∙_}
+use native.Mathlib.Omega.{arith}
+use lib.ListN.{length, drop, getD, length-set, length-drop}
+use mir.Syntax.{w32, w64}
+use mir.Val.{SFits}
+use mir.Facts.{toZ-ofZ}
+use Rattle.console.specs.declared.items.Next.the-variants as next
+use Rattle.console.specs.declared.words.Kind.{Kind}
+use Rattle.console.specs.declared.words.Kind.the-variants as kind
+use Rattle.console.specs.Items.{nextOf, samples}
+use Rattle.console.proofs.TextLaws.{rest-of}
+use Rattle.console.proofs.ItemLaws.{next-within, sample-fits, samples-long, all-samples, Going, begun, further, ended, full, another}
+use borrow.Author.Needs.{needs}
 use Rattle.console.proofs.items.take_samples.Statement.{statement}
 use Rattle.console.proofs.items.take_samples.Tie as tie
-use Rattle.console.proofs.items.take_samples.Reads as reads
-use Rattle.console.proofs.items.take_samples.Lts as lts
-use Rattle.console.proofs.items.next_item.Reads as next-item-reads
 
 abbrev Inv-loop : tie.InvT-loop
-Inv-loop text into₀ count₀ at₀ into count at = ?
+Inv-loop text into₀ count₀ at₀ into count at = Going (samples (length into₀)) text into count at × (length into ≡ length into₀)
 
 abbrev μ-loop : tie.MeasureT-loop
-μ-loop text into₀ count₀ at₀ into count at = ?
+μ-loop text into₀ count₀ at₀ into count at = length into - count
 
--- src/items.rt:127:5
+below : (c : tie.In-loop Inv-loop μ-loop) → c .before .loop .count < length (samples (length (c .before .before .before .args .into .now)))
+below c = omega (arith, c .loop-test .taken, c .before .loop .inv .1, samples-long (length (c .before .before .before .args .into .now)))
+
+sampled : (c : tie.At-loop Inv-loop μ-loop) →
+    nextOf (getD (samples (length (c .before .before .args .into .now))) (c .loop .count) kind.Sample) (drop (c .loop .at) (c .before .before .args .text .now)) ≡ nextOf kind.Sample (drop (c .loop .at) (c .before .before .args .text .now))
+sampled c = ap (λ (k : Kind). nextOf k (drop (c .loop .at) (c .before .before .args .text .now))) (all-samples (length (c .before .before .args .into .now)) (c .loop .count))
+
+rest : (c : tie.After-next-item Inv-loop μ-loop) → c .next-item .result ≡ nextOf kind.Sample (drop (c .before .before .before .loop .at) (c .before .before .before .before .before .args .text .now))
+rest c = c .next-item .ensures ∙ ap (nextOf kind.Sample) (rest-of (c .before .before .before .loop .at) (c .before .before .before .before .before .args .text .now))
+
+found : (c : tie.After-known-told Inv-loop μ-loop) → nextOf kind.Sample (drop (c .before .before .before .before .before .before .loop .at) (c .before .before .before .before .before .before .before .before .args .text .now)) ≡ next.Number (c .before .x .given .0 .0) (c .before .x .given .0 .1 .0)
+found c = sym (rest (c .before .before .before)) ∙ c .before .x .given .1
+
+short : (c : tie.After-known-told Inv-loop μ-loop) → c .before .x .given .0 .1 .0 ≤ length (drop (c .before .before .before .before .before .before .loop .at) (c .before .before .before .before .before .before .before .before .args .text .now))
+short c = next-within _ _ _ _ (found c)
+
+fits : (c : tie.After-known-told Inv-loop μ-loop) → SFits w64 (c .before .x .given .0 .0)
+fits c = search needs
+
+narrow : (c : tie.After-known-told Inv-loop μ-loop) → SFits w32 (c .before .x .given .0 .0)
+narrow c = sample-fits _ _ _ (found c)
+
 loop-holds : tie.Need-loop-holds Inv-loop μ-loop
-loop-holds c = ?
+loop-holds c = (begun _ _ _ (omega (arith, samples-long (length (c .before .args .into .now)))), refl)
 
--- src/items.rt:128:39
 sub-next-item : tie.Need-sub-next-item Inv-loop μ-loop
-sub-next-item c = ?
+sub-next-item c = c .before .loop .inv .0 .inside
 
--- src/items.rt:128:39
 part-next-item-start : tie.Need-part-next-item-start Inv-loop μ-loop
-part-next-item-start c = ?
+part-next-item-start c = c .before .loop .inv .0 .inside
 
--- src/items.rt:128:39
 part-next-item-end : tie.Need-part-next-item-end Inv-loop μ-loop
-part-next-item-end c = ?
+part-next-item-end c = search needs
 
--- src/items.rt:128:15
 next-item-requires : tie.Need-next-item-requires Inv-loop μ-loop
-next-item-requires c κs = ?
+next-item-requires c κs = search needs
 
--- src/items.rt:129:26
 enum-known-x : tie.Need-enum-known-x Inv-loop μ-loop
-enum-known-x c = ?
+enum-known-x c = search needs
 
--- src/items.rt:130:31
 cast-into : tie.Need-cast-into Inv-loop μ-loop
-cast-into c = ?
+cast-into c = rw (toZ-ofZ (fits c)) (narrow c)
 
--- src/items.rt:130:17
 mul-t15 : tie.Need-mul-t15 Inv-loop μ-loop
-mul-t15 c = ?
+mul-t15 c = omega (arith, c .before .before .before .before .before .before .before .before .good, c .before .before .before .before .before .before .loop .inv .1, below (c .before .before .before .before .before), samples-long (length (c .before .before .before .before .before .before .before .before .args .into .now)))
 
--- src/items.rt:130:17
 slice-set-from-into : tie.Need-slice-set-from-into Inv-loop μ-loop
-slice-set-from-into c = ?
+slice-set-from-into c = omega arith
 
--- src/items.rt:131:17
 add-count : tie.Need-add-count Inv-loop μ-loop
-add-count c = ?
+add-count c = omega (arith, c .before .before .before .before .before .before .before .before .good, below (c .before .before .before .before .before), samples-long (length (c .before .before .before .before .before .before .before .before .args .into .now)))
 
--- src/items.rt:132:17
 add-at : tie.Need-add-at Inv-loop μ-loop
-add-at c = ?
+add-at c = omega (arith, c .before .before .before .before .before .before .before .before .good, c .before .before .before .before .before .before .loop .inv .0 .inside, short c, length-drop (c .before .before .before .before .before .before .loop .at) (c .before .before .before .before .before .before .before .before .args .text .now))
 
--- src/items.rt:127:5
 loop-less : tie.Need-loop-less Inv-loop μ-loop
-loop-less c = ?
+loop-less c = simp length-set (omega arith)
 
--- src/items.rt:127:5
 loop-again : tie.Need-loop-again Inv-loop μ-loop
-loop-again c = ?
+loop-again c = (rw (toZ-ofZ (fits c), toZ-ofZ (narrow c)) (further _ _ kind.Sample _ _ _ (c .before .before .before .before .before .before .loop .inv .0) (below (c .before .before .before .before .before)) _ _ (sampled (c .before .before .before .before .before .before) ∙ found c)), simp length-set (c .before .before .before .before .before .before .loop .inv .1))
 
--- src/items.rt:135:17
 enum-told : tie.Need-enum-told Inv-loop μ-loop
-enum-told c = ?
+enum-told c = search needs
 
--- src/items.rt:135:17
 same-length : tie.Need-same-length Inv-loop μ-loop
-same-length c = ?
+same-length c = c .before .before .before .before .before .loop .inv .1
 
--- src/items.rt:135:17
 returns : tie.Need-returns Inv-loop μ-loop
-returns c = ?
+returns c = ended _ _ _ _ _ (c .before .before .before .before .before .loop .inv .0) (another _ _ kind.Sample _ _ _ (c .before .before .before .before .before .loop .inv .0) (below (c .before .before .before .before)) (sampled (c .before .before .before .before .before) ∙ sym (rest (c .before .before)) ∙ c .enum-told .given .1))
 
--- src/items.rt:122:1
 same-length-2 : tie.Need-same-length-2 Inv-loop μ-loop
-same-length-2 c = ?
+same-length-2 c = c .before .loop .inv .1
 
--- src/items.rt:122:1
 returns-2 : tie.Need-returns-2 Inv-loop μ-loop
-returns-2 c = ?
+returns-2 c = ended _ _ _ _ _ (c .before .loop .inv .0) (full (samples (length (c .before .before .before .args .into .now))) (c .before .loop .count) (drop (c .before .loop .at) (c .before .before .before .args .text .now)) (omega (arith, c .loop-test .left, c .before .loop .inv .1, samples-long (length (c .before .before .before .args .into .now)))))
 
 pub take-samples-spec : {M : Type 1} → statement M
 take-samples-spec =

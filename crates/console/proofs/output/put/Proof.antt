@@ -16,11 +16,12 @@ same-length : tie.Need-same-length
 same-length c = search needs
 
 returns : tie.Need-returns
-returns c = 
+returns c =
     let s = c .before .before .before .before .before .before in
     let b = now (s .args .out) in
     let text = now (s .args .text) in
     (rw (c .before .before .put-at .ensures ∙ put-fits b text (s .args .used) (s .pre)) (front-put b text (s .args .used) (s .pre)), refl)
+
 pub put-spec : {M : Type 1} → statement M
 put-spec =
     tie.close

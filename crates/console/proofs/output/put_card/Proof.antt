@@ -29,6 +29,7 @@ same-length-2 c = search needs
 returns-2 : tie.Need-returns-2
 unfolding cardText
 returns-2 c = (simp (c .before .before .put-digits .ensures .0, ne-eqb (c .before .before .before .before .before .before .before .args .s .len) 0 (c .before .before .before .before .if1 .left)), c .before .before .put-digits .ensures .1)
+
 pub put-card-spec : {M : Type 1} → statement M
 put-card-spec =
     tie.close

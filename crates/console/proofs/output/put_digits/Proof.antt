@@ -45,12 +45,13 @@ same-length : tie.Need-same-length
 same-length c = search needs
 
 returns : tie.Need-returns
-returns c = 
+returns c =
     let e = rw (← shown (c .before .before .before .before .before)) at (c .before .before .put .ensures .0) in
     (e, omega (arith, c .before .before .put .ensures .1, short (c .before .before .before .before .before)))
 
 returns-2 : tie.Need-returns-2
 returns-2 c = (sym (ap (λ (t : _). take (c .before .before .before .before .args .used) (now (c .before .before .before .before .args .out)) ++ t) (none c) ∙ append-nil (take (c .before .before .before .before .args .used) (now (c .before .before .before .before .args .out)))), omega arith)
+
 pub put-digits-spec : {M : Type 1} → statement M
 put-digits-spec =
     tie.close

@@ -42,9 +42,10 @@ same-length : tie.Need-same-length
 same-length c = search needs
 
 returns : tie.Need-returns
-returns c = 
+returns c =
     let e = rw (text (c .before .before .before .before .before .before .before)) at (c .before .before .put .ensures) in
     (e .0, omega (arith, e .1, at-most-twenty (c .before .before .before .before .before .before .before .before .before .fits .v)))
+
 pub put-number-spec : {M : Type 1} → statement M
 put-number-spec =
     tie.close

@@ -21,7 +21,7 @@ words-requires : tie.Need-words-requires
 words-requires c κs = search needs
 
 array-share-prefix-words : tie.Need-array-share-prefix-words
-array-share-prefix-words c = 
+array-share-prefix-words c =
     let l : length (c .before .before .words2 .last .1 .0) ≡ 40 = search needs in
     omega (arith, l, written (c .before .before), words-short (c .before .before .before .before .before .args .number))
 
@@ -35,9 +35,10 @@ same-length : tie.Need-same-length
 same-length c = search needs
 
 returns : tie.Need-returns
-returns c = 
+returns c =
     let e = rw (said (c .before .before .before .before .before .before)) at (c .before .before .put .ensures) in
     (e .0, omega (arith, e .1, words-short (c .before .before .before .before .before .before .before .before .before .args .number)))
+
 pub put-words-spec : {M : Type 1} → statement M
 put-words-spec =
     tie.close

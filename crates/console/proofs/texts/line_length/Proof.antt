@@ -1,33 +1,40 @@
+-- `line_length` leaves a carriage return before the end out.
+use mathlib.Core.Path.{sym, ap}
+use native.Mathlib.Omega.{arith}
+use lib.ListN.{length, take, getD}
+use lib.Seq.{length-take-le}
+use borrow.Author.Tests.{eq-eqb, ne-eqb}
+use Rattle.console.specs.Texts.{withoutReturn}
+use Rattle.console.proofs.TextLaws.{no-return, one-return, none-to-cut}
 use borrow.Author.Needs.{needs}
 use Rattle.console.proofs.texts.line_length.Statement.{statement}
 use Rattle.console.proofs.texts.line_length.Tie as tie
-use Rattle.console.proofs.texts.line_length.Reads as reads
-use Rattle.console.proofs.texts.line_length.Lts as lts
 
--- src/texts.rt:29:9
 returns : tie.Need-returns
-returns c = ?
+returns c = none-to-cut (c .before .args .line .now) (c .if1 .taken)
 
--- src/texts.rt:31:13
 sub-if2 : tie.Need-sub-if2
 sub-if2 c = search needs
 
--- src/texts.rt:31:8
 shared-slice-read-if2 : tie.Need-shared-slice-read-if2
 shared-slice-read-if2 c = search needs
 
--- src/texts.rt:31:31
 sub-result : tie.Need-sub-result
 sub-result c = search needs
 
--- src/texts.rt:24:1
 returns-2 : tie.Need-returns-2
-returns-2 c = ?
+returns-2 c = one-return (c .before .before .before .args .line .now) (c .if2 .taken)
 
--- src/texts.rt:24:1
 returns-3 : tie.Need-returns-3
-returns-3 c = ?
+returns-3 c = no-return (c .before .before .before .args .line .now) (c .if2 .left)
 
 pub line-length-spec : {M : Type 1} → statement M
 line-length-spec =
-    tie.close (tie.spec returns sub-if2 shared-slice-read-if2 sub-result returns-2 returns-3)
+    tie.close
+    (tie.spec
+    returns
+    sub-if2
+    shared-slice-read-if2
+    sub-result
+    returns-2
+    returns-3)

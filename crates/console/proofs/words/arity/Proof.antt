@@ -1,96 +1,87 @@
+-- `arity` is how many items a step has.
+use mathlib.Core.Path.{refl}
+use native.Mathlib.Omega.{arith}
+use Rattle.console.specs.Words.{itemsOf}
 use borrow.Author.Needs.{needs}
 use Rattle.console.proofs.words.arity.Statement.{statement}
 use Rattle.console.proofs.words.arity.Tie as tie
-use Rattle.console.proofs.words.arity.Reads as reads
-use Rattle.console.proofs.words.arity.Lts as lts
 
--- src/words.rt:73:24
 enum-told : tie.Need-enum-told
 enum-told c = search needs
 
--- src/words.rt:74:23
 enum-told-2 : tie.Need-enum-told-2
 enum-told-2 c = search needs
 
--- src/words.rt:75:24
 enum-told-3 : tie.Need-enum-told-3
 enum-told-3 c = search needs
 
--- src/words.rt:76:25
 enum-told-4 : tie.Need-enum-told-4
 enum-told-4 c = search needs
 
--- src/words.rt:77:23
 enum-told-5 : tie.Need-enum-told-5
 enum-told-5 c = search needs
 
--- src/words.rt:78:23
 enum-told-6 : tie.Need-enum-told-6
 enum-told-6 c = search needs
 
--- src/words.rt:79:23
 enum-told-7 : tie.Need-enum-told-7
 enum-told-7 c = search needs
 
--- src/words.rt:80:24
 enum-told-8 : tie.Need-enum-told-8
 enum-told-8 c = search needs
 
--- src/words.rt:81:24
 enum-told-9 : tie.Need-enum-told-9
 enum-told-9 c = search needs
 
--- src/words.rt:82:23
 enum-told-10 : tie.Need-enum-told-10
 enum-told-10 c = search needs
 
--- src/words.rt:83:24
 enum-told-11 : tie.Need-enum-told-11
 enum-told-11 c = search needs
 
--- src/words.rt:69:1
 returns : tie.Need-returns
-returns c = ?
+unfolding itemsOf
+returns c = rw (c .enum-told .given .1) (refl, omega arith)
 
--- src/words.rt:69:1
 returns-2 : tie.Need-returns-2
-returns-2 c = ?
+unfolding itemsOf
+returns-2 c = rw (c .enum-told2 .given .1) (refl, omega arith)
 
--- src/words.rt:69:1
 returns-3 : tie.Need-returns-3
-returns-3 c = ?
+unfolding itemsOf
+returns-3 c = rw (c .enum-told3 .given .1) (refl, omega arith)
 
--- src/words.rt:69:1
 returns-4 : tie.Need-returns-4
-returns-4 c = ?
+unfolding itemsOf
+returns-4 c = rw (c .enum-told4 .given .1) (refl, omega arith)
 
--- src/words.rt:69:1
 returns-5 : tie.Need-returns-5
-returns-5 c = ?
+unfolding itemsOf
+returns-5 c = rw (c .enum-told5 .given .1) (refl, omega arith)
 
--- src/words.rt:69:1
 returns-6 : tie.Need-returns-6
-returns-6 c = ?
+unfolding itemsOf
+returns-6 c = rw (c .enum-told6 .given .1) (refl, omega arith)
 
--- src/words.rt:69:1
 returns-7 : tie.Need-returns-7
-returns-7 c = ?
+unfolding itemsOf
+returns-7 c = rw (c .enum-told7 .given .1) (refl, omega arith)
 
--- src/words.rt:69:1
 returns-8 : tie.Need-returns-8
-returns-8 c = ?
+unfolding itemsOf
+returns-8 c = rw (c .enum-told8 .given .1) (refl, omega arith)
 
--- src/words.rt:69:1
 returns-9 : tie.Need-returns-9
-returns-9 c = ?
+unfolding itemsOf
+returns-9 c = rw (c .enum-told9 .given .1) (refl, omega arith)
 
--- src/words.rt:69:1
 returns-10 : tie.Need-returns-10
-returns-10 c = ?
+unfolding itemsOf
+returns-10 c = rw (c .enum-told10 .given .1) (refl, omega arith)
 
--- src/words.rt:69:1
 returns-11 : tie.Need-returns-11
-returns-11 c = ?
+unfolding itemsOf
+returns-11 c = rw (c .enum-told11 .given .1) (refl, omega arith)
 
 pub arity-spec : {M : Type 1} → statement M
 arity-spec =
