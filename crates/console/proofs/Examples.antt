@@ -1,7 +1,7 @@
 -- Lines and answers worked out by the definition.
 use mathlib.Core.Path.{_≡_, refl}
 use mathlib.Core.List.{[], _∷_, _++_}
-use lib.IntN.{pos, negsuc}
+use lib.IntN.{negsuc}
 use Rattle.decimal.specs.Decimals.{digits, decimal, signedDecimal}
 use Rattle.serial.specs.Ascii.{ascii}
 use Rattle.serial.specs.declared.Serial.{Serial}

@@ -9,7 +9,6 @@ use native.Mathlib.Omega.{arith}
 use lib.Dec.{T, eqb, leb, leb→le, nleb→lt}
 use lib.ListN.{length, getD, take, drop, length-take, length-drop, length-append}
 use lib.Seq.{take-all, take-append-le, take-append-add, take-take, length-take-le, drop-cons, drop-drop, getD-drop}
-use borrow.Author.Tests.{eq-eqb, ne-eqb}
 use Rattle.serial.specs.Places.{put}
 use Rattle.serial.proofs.Places.{front-put}
 use Rattle.aberzhan.specs.declared.Module.{Module}

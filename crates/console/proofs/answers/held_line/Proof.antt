@@ -1,7 +1,6 @@
 -- `held_line` is the line of an accepted hold.
 use Rattle.console.proofs.AnswerLaws.{and-then}
 use native.Mathlib.Omega.{arith}
-use mir.Syntax.{w64}
 use Rattle.number.proofs.Fits.{read32}
 use Rattle.decimal.specs.Decimals.{decimal, signedDecimal}
 use Rattle.serial.specs.Ascii.{ascii}

@@ -1,5 +1,4 @@
 -- `help_lines` is the help.
-use mathlib.Core.Path.{_∙_}
 use native.Mathlib.Omega.{arith}
 use Rattle.serial.specs.Ascii.{ascii}
 use Rattle.console.specs.Answers.{helpLines, linesOf, helpText}

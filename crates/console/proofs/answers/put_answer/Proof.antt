@@ -1,6 +1,6 @@
 -- `put_answer` puts what a turn says.
 use native.Mathlib.Omega.{arith}
-use mir.Syntax.{w8, w64}
+use mir.Syntax.{w64}
 use mir.Val.{SFits}
 use mir.Facts.{toZ-ofZ}
 use Rattle.serial.specs.Ascii.{ascii}

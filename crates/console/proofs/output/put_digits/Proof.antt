@@ -1,5 +1,5 @@
 -- `put_digits` puts the digits that a serial has.
-use Prim.Native.Nat.{ℕ, _≤_}
+use Prim.Native.Nat.{_≤_}
 use mathlib.Core.Path.{_≡_, sym, ap, _∙_}
 use mathlib.Core.List.{[], _++_, append-nil}
 use native.Mathlib.Omega.{arith}

@@ -1,10 +1,4 @@
 -- `line_length` leaves a carriage return before the end out.
-use mathlib.Core.Path.{sym, ap}
-use native.Mathlib.Omega.{arith}
-use lib.ListN.{length, take, getD}
-use lib.Seq.{length-take-le}
-use borrow.Author.Tests.{eq-eqb, ne-eqb}
-use Rattle.console.specs.Texts.{withoutReturn}
 use Rattle.console.proofs.TextLaws.{no-return, one-return, none-to-cut}
 use borrow.Author.Needs.{needs}
 use Rattle.console.proofs.texts.line_length.Statement.{statement}

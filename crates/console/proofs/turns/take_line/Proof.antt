@@ -1,6 +1,6 @@
 -- `take_line` is the step that a line makes.
 use Prim.Native.Nat.{ℕ, _≤_, _-_}
-use mathlib.Core.Path.{_≡_, refl, sym, ap, _∙_}
+use mathlib.Core.Path.{_≡_, sym, ap, _∙_}
 use lib.ListN.{length, take, drop}
 use lib.Seq.{length-take-le}
 use Rattle.console.specs.declared.words.Word.the-variants.{Start, Open, Write, Commit, Drop, Hold, Read, Block, Cards, Help, Other}
@@ -9,6 +9,7 @@ use Rattle.console.specs.Words.{wordOf}
 use Rattle.console.specs.Turns.{withItems, withText, withSamples}
 use Rattle.console.proofs.TextLaws.{rest-of, to-within}
 use Rattle.console.proofs.TurnLaws.{long-line, line-with}
+use borrow.Author.Needs.{needs}
 use Rattle.console.proofs.turns.take_line.Statement.{statement}
 use Rattle.console.proofs.turns.take_line.Tie as tie
 
@@ -22,8 +23,179 @@ behind : (c : tie.After-rest) →
     take (length (c .before .before .before .before .before .before .args .line .now) - c .before .before .before .length-to .result) (drop (c .before .before .before .length-to .result) (c .before .before .before .before .before .before .args .line .now)) ≡ drop (lengthTo 32 (c .before .before .before .before .before .before .args .line .now)) (c .before .before .before .before .before .before .args .line .now)
 behind c = rest-of (c .before .before .before .length-to .result) (c .before .before .before .before .before .before .args .line .now) ∙ ap (λ (n : ℕ). drop n (c .before .before .before .before .before .before .args .line .now)) (c .before .before .before .length-to .ensures)
 
+unread-requires : tie.Need-unread-requires
+unread-requires c κs = search needs
+
+returns : tie.Need-returns
+returns c = c .unread .ensures ∙ long-line _ _ _ _ (c .before .if1 .taken)
+
+length-to-requires : tie.Need-length-to-requires
+length-to-requires c κs = search needs
+
+slice-aggregate-first-word : tie.Need-slice-aggregate-first-word
+slice-aggregate-first-word c = sym (length-take-le _ _ (short (c .before)))
+
+first-word-requires : tie.Need-first-word-requires
+first-word-requires c κs = search needs
+
+sub-rest : tie.Need-sub-rest
+sub-rest c = short (c .before .before)
+
+part-rest-start : tie.Need-part-rest-start
+part-rest-start c = short (c .before .before)
+
+part-rest-end : tie.Need-part-rest-end
+part-rest-end c = search needs
+
+enum-told : tie.Need-enum-told
+enum-told c = search needs
+
+with-text-requires : tie.Need-with-text-requires
+with-text-requires c κs = search needs
+
+enum-told-2 : tie.Need-enum-told-2
+enum-told-2 c = search needs
+
+with-samples-requires : tie.Need-with-samples-requires
+with-samples-requires c κs = search needs
+
+enum-told-3 : tie.Need-enum-told-3
+enum-told-3 c = search needs
+
+unread-requires-2 : tie.Need-unread-requires-2
+unread-requires-2 c κs = search needs
+
+enum-told-4 : tie.Need-enum-told-4
+enum-told-4 c = search needs
+
+with-items-requires : tie.Need-with-items-requires
+with-items-requires c κs = search needs
+
+enum-told-5 : tie.Need-enum-told-5
+enum-told-5 c = search needs
+
+with-items-requires-2 : tie.Need-with-items-requires-2
+with-items-requires-2 c κs = search needs
+
+enum-told-6 : tie.Need-enum-told-6
+enum-told-6 c = search needs
+
+with-items-requires-3 : tie.Need-with-items-requires-3
+with-items-requires-3 c κs = search needs
+
+enum-told-7 : tie.Need-enum-told-7
+enum-told-7 c = search needs
+
+with-items-requires-4 : tie.Need-with-items-requires-4
+with-items-requires-4 c κs = search needs
+
+enum-told-8 : tie.Need-enum-told-8
+enum-told-8 c = search needs
+
+with-items-requires-5 : tie.Need-with-items-requires-5
+with-items-requires-5 c κs = search needs
+
+enum-told-9 : tie.Need-enum-told-9
+enum-told-9 c = search needs
+
+with-items-requires-6 : tie.Need-with-items-requires-6
+with-items-requires-6 c κs = search needs
+
+enum-told-10 : tie.Need-enum-told-10
+enum-told-10 c = search needs
+
+with-items-requires-7 : tie.Need-with-items-requires-7
+with-items-requires-7 c κs = search needs
+
+enum-told-11 : tie.Need-enum-told-11
+enum-told-11 c = search needs
+
+with-items-requires-8 : tie.Need-with-items-requires-8
+with-items-requires-8 c κs = search needs
+
+returns-2 : tie.Need-returns-2
+returns-2 c = c .with-text .ensures ∙ ap (withText _) (behind (c .before .before .before)) ∙ line-with _ _ _ _ Open (word (c .before .before .before .before) ∙ c .before .enum-told .given .1) (c .before .before .before .before .before .before .before .if1 .left)
+
+same-length : tie.Need-same-length
+same-length c = search needs
+
+same-length-2 : tie.Need-same-length-2
+same-length-2 c = search needs
+
+returns-3 : tie.Need-returns-3
+returns-3 c = c .before .before .with-samples .ensures ∙ ap (withSamples _ _ _) (behind (c .before .before .before .before .before .before .before)) ∙ line-with _ _ _ _ Block (word (c .before .before .before .before .before .before .before .before) ∙ c .before .before .before .before .before .enum-told2 .given .1) (c .before .before .before .before .before .before .before .before .before .before .before .if1 .left)
+
+returns-4 : tie.Need-returns-4
+returns-4 c = c .unread2 .ensures ∙ line-with _ _ _ _ Other (word (c .before .before .before .before) ∙ c .before .enum-told3 .given .1) (c .before .before .before .before .before .before .before .if1 .left)
+
+returns-5 : tie.Need-returns-5
+returns-5 c = c .with-items .ensures ∙ rw (c .before .enum-told4 .given .1) (ap (withItems _ Start) (behind (c .before .before .before)) ∙ line-with _ _ _ _ Start (word (c .before .before .before .before) ∙ c .before .enum-told4 .given .1) (c .before .before .before .before .before .before .before .if1 .left))
+
+returns-6 : tie.Need-returns-6
+returns-6 c = c .with-items2 .ensures ∙ rw (c .before .enum-told5 .given .1) (ap (withItems _ Write) (behind (c .before .before .before)) ∙ line-with _ _ _ _ Write (word (c .before .before .before .before) ∙ c .before .enum-told5 .given .1) (c .before .before .before .before .before .before .before .if1 .left))
+
+returns-7 : tie.Need-returns-7
+returns-7 c = c .with-items3 .ensures ∙ rw (c .before .enum-told6 .given .1) (ap (withItems _ Commit) (behind (c .before .before .before)) ∙ line-with _ _ _ _ Commit (word (c .before .before .before .before) ∙ c .before .enum-told6 .given .1) (c .before .before .before .before .before .before .before .if1 .left))
+
+returns-8 : tie.Need-returns-8
+returns-8 c = c .with-items4 .ensures ∙ rw (c .before .enum-told7 .given .1) (ap (withItems _ Drop) (behind (c .before .before .before)) ∙ line-with _ _ _ _ Drop (word (c .before .before .before .before) ∙ c .before .enum-told7 .given .1) (c .before .before .before .before .before .before .before .if1 .left))
+
+returns-9 : tie.Need-returns-9
+returns-9 c = c .with-items5 .ensures ∙ rw (c .before .enum-told8 .given .1) (ap (withItems _ Hold) (behind (c .before .before .before)) ∙ line-with _ _ _ _ Hold (word (c .before .before .before .before) ∙ c .before .enum-told8 .given .1) (c .before .before .before .before .before .before .before .if1 .left))
+
+returns-10 : tie.Need-returns-10
+returns-10 c = c .with-items6 .ensures ∙ rw (c .before .enum-told9 .given .1) (ap (withItems _ Read) (behind (c .before .before .before)) ∙ line-with _ _ _ _ Read (word (c .before .before .before .before) ∙ c .before .enum-told9 .given .1) (c .before .before .before .before .before .before .before .if1 .left))
+
+returns-11 : tie.Need-returns-11
+returns-11 c = c .with-items7 .ensures ∙ rw (c .before .enum-told10 .given .1) (ap (withItems _ Cards) (behind (c .before .before .before)) ∙ line-with _ _ _ _ Cards (word (c .before .before .before .before) ∙ c .before .enum-told10 .given .1) (c .before .before .before .before .before .before .before .if1 .left))
+
+returns-12 : tie.Need-returns-12
+returns-12 c = c .with-items8 .ensures ∙ rw (c .before .enum-told11 .given .1) (ap (withItems _ Help) (behind (c .before .before .before)) ∙ line-with _ _ _ _ Help (word (c .before .before .before .before) ∙ c .before .enum-told11 .given .1) (c .before .before .before .before .before .before .before .if1 .left))
+
 pub take-line-spec : {M : Type 1} → statement M
 take-line-spec =
     tie.close
     (tie.spec
-    )
+    unread-requires
+    returns
+    length-to-requires
+    slice-aggregate-first-word
+    first-word-requires
+    sub-rest
+    part-rest-start
+    part-rest-end
+    enum-told
+    with-text-requires
+    enum-told-2
+    with-samples-requires
+    enum-told-3
+    unread-requires-2
+    enum-told-4
+    with-items-requires
+    enum-told-5
+    with-items-requires-2
+    enum-told-6
+    with-items-requires-3
+    enum-told-7
+    with-items-requires-4
+    enum-told-8
+    with-items-requires-5
+    enum-told-9
+    with-items-requires-6
+    enum-told-10
+    with-items-requires-7
+    enum-told-11
+    with-items-requires-8
+    returns-2
+    same-length
+    same-length-2
+    returns-3
+    returns-4
+    returns-5
+    returns-6
+    returns-7
+    returns-8
+    returns-9
+    returns-10
+    returns-11
+    returns-12)

@@ -1,15 +1,15 @@
 -- `with_currents` is a block behind its bar.
-use Prim.Native.Nat.{_≤_}
+use Prim.Native.Nat.{ℕ, _-_, _≤_}
 use mathlib.Core.Path.{sym, ap, _∙_}
 use native.Mathlib.Omega.{arith}
-use lib.ListN.{length}
+use lib.ListN.{length, take, drop}
 use lib.Seq.{length-take-le}
 use Rattle.console.specs.declared.unread.Why.{Why}
 use Rattle.console.specs.Items.{samples}
 use Rattle.console.specs.Unread.{sideStopped}
 use Rattle.console.specs.Turns.{unreadTurn, steppedTurn}
 use Rattle.console.proofs.TextLaws.{rest-of}
-use Rattle.console.proofs.ItemLaws.{row-within, row-count, samples-long}
+use Rattle.console.proofs.ItemLaws.{row-count, samples-long}
 use Rattle.console.proofs.TurnLaws.{odd-current, whole-block}
 use borrow.Author.Needs.{needs}
 use Rattle.console.proofs.turns.with_currents.Statement.{statement}
@@ -44,7 +44,7 @@ returns c =
     let t = c .before .before .before .before .before .take-samples in
     c .unread .ensures
     ∙ ap (λ (w : Why). unreadTurn (c .before .before .before .before .before .before .before .before .args .m) w)
-    (c .before .side-stopped .ensures ∙ ap (λ (n : _). sideStopped n (t .result .count) _) (t .kept .1 .0) ∙ ap (sideStopped (length (c .before .before .before .before .before .before .before .before .args .i .now)) (t .result .count)) (rest-of (t .result .taken) (c .before .before .before .before .before .before .before .before .args .text .now)))
+    (c .before .side-stopped .ensures ∙ ap (λ (n : ℕ). sideStopped n (t .result .count) (take (length (c .before .before .before .before .before .before .before .before .args .text .now) - t .result .taken) (drop (t .result .taken) (c .before .before .before .before .before .before .before .before .args .text .now)))) (t .kept .1 .0) ∙ ap (sideStopped (length (c .before .before .before .before .before .before .before .before .args .i .now)) (t .result .count)) (rest-of (t .result .taken) (c .before .before .before .before .before .before .before .before .args .text .now)))
     ∙ odd-current _ _ _ _ _ _ (t .ensures) (c .before .before .before .if1 .taken)
 
 slice-reshare-prefix-block : tie.Need-slice-reshare-prefix-block

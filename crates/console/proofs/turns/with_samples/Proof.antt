@@ -1,5 +1,5 @@
 -- `with_samples` is a block: voltages, a bar, currents.
-use Prim.Native.Nat.{_-_, _≤_}
+use Prim.Native.Nat.{ℕ, _-_, _≤_}
 use mathlib.Core.Path.{_≡_, sym, ap, _∙_}
 use mathlib.Core.List.{List, [], _∷_}
 use native.Mathlib.Omega.{arith}
@@ -90,7 +90,7 @@ returns-2 c =
     let t = c .before .before .before .before .before .before .before .take-samples in
     c .unread .ensures
     ∙ ap (λ (w : Why). unreadTurn (c .before .before .before .before .before .before .before .before .before .before .args .m) w)
-    (c .before .side-stopped .ensures ∙ ap (λ (n : _). sideStopped n (t .result .count) _) (t .kept .1 .0) ∙ ap (sideStopped (length (c .before .before .before .before .before .before .before .before .before .before .args .v .now)) (t .result .count)) (rest-of (t .result .taken) (c .before .before .before .before .before .before .before .before .before .before .args .rest .now)))
+    (c .before .side-stopped .ensures ∙ ap (λ (n : ℕ). sideStopped n (t .result .count) (take (length (c .before .before .before .before .before .before .before .before .before .before .args .rest .now) - t .result .taken) (drop (t .result .taken) (c .before .before .before .before .before .before .before .before .before .before .args .rest .now)))) (t .kept .1 .0) ∙ ap (sideStopped (length (c .before .before .before .before .before .before .before .before .before .before .args .v .now)) (t .result .count)) (rest-of (t .result .taken) (c .before .before .before .before .before .before .before .before .before .before .args .rest .now)))
     ∙ no-bar _ _ _ _ _ _ (t .ensures) (sym (barred (c .before .before .before)) ∙ c .before .before .if1 .left)
 
 pub with-samples-spec : {M : Type 1} → statement M
