@@ -55,4 +55,5 @@ const char help_lines[] =
     "# read PORT REGISTER: of what is held; a name (VA_RMS, WATT_A, PA_POS_CNT, MIN1 ..) or a byte address\n"
     "# cards: the serials of the card in force and of the one that waits\n"
     "# help: these lines\n"
+    "# A terminal cuts a pasted line at 4,095 bytes: send long blocks from a file, or as several blocks.\n"
     "# Numbers are decimal, or hexadecimal behind 0x. One space parts two items. # begins a comment.\n";

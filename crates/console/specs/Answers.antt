@@ -65,6 +65,7 @@ helpLines =
     ∷ "# read PORT REGISTER: of what is held; a name (VA_RMS, WATT_A, PA_POS_CNT, MIN1 ..) or a byte address"
     ∷ "# cards: the serials of the card in force and of the one that waits"
     ∷ "# help: these lines"
+    ∷ "# A terminal cuts a pasted line at 4,095 bytes: send long blocks from a file, or as several blocks."
     ∷ "# Numbers are decimal, or hexadecimal behind 0x. One space parts two items. # begins a comment."
     ∷ []
 
