@@ -27,9 +27,9 @@ use Rattle.meter.specs.Starting.{numbersOk, freshOf, notStarted, startOf as met
 use Rattle.steps.specs.declared.Answer.the-variants.{Done}
 use Rattle.meter.proofs.Agreement.{feeds-sound, wait-sound}
 use Rattle.meter.proofs.Starts.{numbers-in}
-use Rattle.port.specs.declared.desks.Desk.{Desk}
+use Rattle.desk.specs.declared.Desk.{Desk}
 use Rattle.aberzhan.specs.declared.Module.{Module}
-use Rattle.port.specs.Desks.{Edit, openWith, writeField, shutDesk, emptyCard, withField, opening, writing, allWritten, cardOn, finished}
+use Rattle.desk.specs.Desks.{Edit, openWith, writeField, shutDesk, emptyCard, withField, opening, writing, allWritten, cardOn, finished}
 use Rattle.aberzhan.specs.Ports.{aberzhan}
 use Rattle.aberzhan.specs.Module.{freshModule, startOf}
 

@@ -4,10 +4,10 @@ ghost use Rattle.aberzhan.specs.Module.{withMeter, refusal, openOf, writ
 ghost use Rattle.aberzhan.specs.Inside.{isPort, deskAt, holdAt, deskPut, holdPut, deskDid, committed, held};
 use address::ByteAddr;
 use address::WordAddr;
+use desk::Desk;
+use desk::Desked;
+use desk::Finished;
 use meter::Meter;
-use port::desks::Desk;
-use port::desks::Desked;
-use port::desks::Finished;
 use port::holds::Copied;
 use port::holds::Held;
 use port::holds::Reading;

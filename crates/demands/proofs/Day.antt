@@ -19,7 +19,7 @@ use Rattle.interval.specs.Close.{sourceAfter, sevenOf, registersAfter, numberAf
 use Rattle.meter.specs.Core.{samplesOf, lastOf, closedWork}
 use Rattle.meter.specs.Blocks.{waitOf, nextCard, soundOf, blockOf as meterBlock}
 use Rattle.meter.specs.Starting.{numbersOk, freshOf, startOf as meterStart}
-use Rattle.port.specs.Desks.{emptyCard, withField, opening, writing, allWritten, cardOn, finished, discarded}
+use Rattle.desk.specs.Desks.{emptyCard, withField, opening, writing, allWritten, cardOn, finished, discarded}
 use Rattle.port.specs.Holds.{copyOf, copied}
 use Rattle.port.specs.Reading.{registers, slotOff, look}
 use Rattle.aberzhan.specs.Module.{portAt, freshModule, startOf, openOf, writeOf, commitOf, dropOf, holdOf, readOf, blockOf}

@@ -13,7 +13,7 @@ use card::Card;
 use interval::close::Closed;
 use interval::close::Settings;
 use sample::Sums;
-use sample::samples::phase_in_range;
+use sample::phase_in_range;
 use serial::Serial;
 use steps::Answer;
 
@@ -124,7 +124,7 @@ impl Meter {
         let c = m.force;
         let w = m.work;
         let old = w.sums;
-        let s = old.with_samples(self.taken, c, v, i);
+        let s = summing::with_samples(old, self.taken, c, v, i);
         let u = w.with_sums(s);
         m.ended(self.taken + v.len() as u32, u)
     }
