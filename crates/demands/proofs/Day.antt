@@ -14,11 +14,11 @@ use Rattle.rules.specs.Source.{vrmsOf, irmsOf, wattOf, ipeakOf, six, figuresOf}
 use Rattle.energy.specs.Energies.{advanced, joinedBy, plusAfter, minusAfter}
 use Rattle.address.specs.Addresses.{trackable, untracked, words, position, placeOf, byteOf, registerOf}
 use Rattle.address.specs.Slots.{slotOk, everySlot}
-use Rattle.interval.specs.Tracking.{tracked, further, lowest, highest, followed}
+use Rattle.tracking.specs.Tracking.{tracked, further, lowest, highest, followed}
 use Rattle.interval.specs.Close.{sourceAfter, sevenOf, registersAfter, numberAfter, closedOf}
 use Rattle.meter.specs.Core.{samplesOf, lastOf, closedWork}
 use Rattle.meter.specs.Blocks.{waitOf, nextCard, soundOf, blockOf as meterBlock}
-use Rattle.meter.specs.Starting.{numbersOk, freshOf, startOf as meterStart}
+use Rattle.starting.specs.Starting.{numbersOk, freshOf, startOf as meterStart}
 use Rattle.desk.specs.Desks.{emptyCard, withField, opening, writing, allWritten, cardOn, finished, discarded}
 use Rattle.port.specs.Holds.{copyOf, copied}
 use Rattle.port.specs.Reading.{registers, slotOff, look}

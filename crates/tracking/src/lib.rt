@@ -1,6 +1,6 @@
 // Minima and maxima of the six tracked slots.
 ghost use mathlib.Core.Path.{_≡_};
-ghost use Rattle.interval.specs.Tracking.{tracked, further, followed};
+ghost use Rattle.tracking.specs.Tracking.{tracked, further, followed};
 use address::WordAddr;
 use address::place_of;
 
@@ -26,7 +26,8 @@ fn tracked_of(word: WordAddr, seven: [i32; 7]) -> i32
 }
 
 impl Ends {
-    pub(crate) fn follow(self, first: bool, track: [WordAddr; 6], seven: [i32; 7]) -> Ends
+    // What the slots have followed after one interval more, of whose seven registers each tracks one; first: whether it is the first that closed.
+    pub fn follow(self, first: bool, track: [WordAddr; 6], seven: [i32; 7]) -> Ends
         ensures { λ r. ⌜ r ≡ followed first track seven self ⌝ }
     {
         let mut low = self.low;

@@ -6,10 +6,10 @@ use mir.Syntax.{w32}
 use mir.Val.{SFits}
 use lib.IntN.{pos}
 use lib.ListN.{getD, length, List·getD-eq-default}
-use Rattle.interval.specs.Tracking.{tracked}
+use Rattle.tracking.specs.Tracking.{tracked}
 use borrow.Author.Needs.{needs}
-use Rattle.interval.proofs.track.tracked_of.Statement.{statement}
-use Rattle.interval.proofs.track.tracked_of.Tie as tie
+use Rattle.tracking.proofs.tracked_of.Statement.{statement}
+use Rattle.tracking.proofs.tracked_of.Tie as tie
 
 place-of-requires : tie.Need-place-of-requires
 place-of-requires c κs = search needs

@@ -3,9 +3,9 @@ use mathlib.Core.Path.{_≡_, ap, sym}
 use mathlib.Core.Bool.{Bool, cond}
 use lib.IntN.{ℤ}
 use mir.Facts.{toZ-ofZ}
-use Rattle.interval.specs.Tracking.{further}
-use Rattle.interval.proofs.track.further.Statement.{statement}
-use Rattle.interval.proofs.track.further.Tie as tie
+use Rattle.tracking.specs.Tracking.{further}
+use Rattle.tracking.proofs.further.Statement.{statement}
+use Rattle.tracking.proofs.further.Tie as tie
 
 -- what is chosen, by the test's value
 chosen : {t u : Bool} (now old : ℤ) → t ≡ u → cond u now old ≡ cond t now old

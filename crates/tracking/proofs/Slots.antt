@@ -8,7 +8,7 @@ use native.Mathlib.Omega.{arith}
 use lib.ListN.{length, getD, take, drop, set, length-append, length-take, length-drop, drop-of-length-le}
 use lib.Seq.{paste-suc, take-length, getD-append-add, getD-drop}
 use lib.IntN.{ℤ, pos}
-use Rattle.interval.specs.Tracking.{slots}
+use Rattle.tracking.specs.Tracking.{slots}
 
 module _ {A : Type 0} where
   -- d, with the first i of s laid over it

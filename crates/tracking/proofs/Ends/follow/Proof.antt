@@ -12,10 +12,10 @@ use mir.Val.{SFits, toZ, ofZ}
 use lib.IntN.{ℤ, pos}
 use Rattle.address.specs.declared.WordAddr.{WordAddr}
 use Rattle.address.specs.Slots.{off}
-use Rattle.interval.specs.Tracking.{tracked, lowest, highest, slots, followed}
-use Rattle.interval.proofs.Slots.{over, over-more, over-all, over-at, slot-at}
-use Rattle.interval.proofs.track.Ends.follow.Statement.{statement}
-use Rattle.interval.proofs.track.Ends.follow.Tie as tie
+use Rattle.tracking.specs.Tracking.{tracked, lowest, highest, slots, followed}
+use Rattle.tracking.proofs.Slots.{over, over-more, over-all, over-at, slot-at}
+use Rattle.tracking.proofs.Ends.follow.Statement.{statement}
+use Rattle.tracking.proofs.Ends.follow.Tie as tie
 
 abbrev lowAt : Bool → List ℤ → List WordAddr → List ℤ → ℕ → ℤ
 lowAt first now track old k = lowest first (tracked (getD track k off) now) (getD old k (pos 0))

@@ -6,7 +6,7 @@ use lib.IntN.{ℤ, pos}
 use lib.ListN.{getD}
 use lib.Signed.{ltZ}
 use Rattle.address.specs.declared.WordAddr.{WordAddr}
-use Rattle.interval.specs.declared.track.Ends.{Ends}
+use Rattle.tracking.specs.declared.Ends.{Ends}
 use Rattle.address.specs.Addresses.{placeOf}
 use Rattle.address.specs.Slots.{off}
 
