@@ -1,9 +1,9 @@
 -- The day at a site, computed: the sequence shortens as said, and both sequences close the same intervals, tell the same and leave the same module.
 use mathlib.Core.Path.{refl}
-use Rattle.number.specs.Range.{in24, clipped, heldWithin}
+use Rattle.range.specs.Range.{in24, clipped, heldWithin}
 use Rattle.number.specs.Sign.{withSign, lessened}
 use Rattle.number.specs.Rounding.{floorDiv, towardZero}
-use Rattle.number.specs.Root.{rootOf, rootBy}
+use Rattle.root.specs.Root.{rootOf, rootBy}
 use Rattle.serial.specs.Every.{every}
 use Rattle.serial.specs.Serials.{digitsOk, isSerial, padded, serialOf}
 use Rattle.card.specs.Fields.{lows, highs, fitsField, isField, fieldInRange}

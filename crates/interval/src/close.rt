@@ -1,6 +1,6 @@
 // The close of an interval.
 ghost use mathlib.Core.Path.{_≡_};
-ghost use Rattle.number.specs.Range.{capped};
+ghost use Rattle.range.specs.Range.{capped};
 ghost use Rattle.energy.specs.Energies.{advanced};
 ghost use Rattle.interval.specs.Close.{withPlus, withMinus, sourceAfter, sevenOf, registersAfter, closedOf, noneClosed};
 use address::WordAddr;

@@ -9,7 +9,7 @@ use mir.Syntax.{w64}
 use mir.Val.{SFits}
 use Rattle.number.proofs.Signed.{add-is, abs-is}
 use Rattle.number.proofs.Fits.{within, Size, size-mul}
-use Rattle.number.proofs.Ranges.{size24}
+use Rattle.range.proofs.Ranges.{size24}
 use Rattle.sample.specs.declared.Flow.{Flow}
 use Rattle.sample.specs.declared.Sums.{Sums}
 use Rattle.number.specs.Sign.{squareOf}

@@ -9,7 +9,7 @@ use card::names::PHASE;
 pub fn correct(raw: i32, offset: i32, gain: i32) -> i32
     ensures { λ r. ⌜ r ≡ corrected raw offset gain ⌝ }
 {
-    number::clip(number::floor_div((raw as i64 - offset as i64) * gain as i64, 21))
+    range::clip(number::floor_div((raw as i64 - offset as i64) * gain as i64, 21))
 }
 
 // ((4,096 - phase) times now + phase times previous) / 4,096, rounded down.
@@ -27,7 +27,7 @@ pub fn all_in_range(a: &[i32]) -> bool
     let mut ok = true;
     let mut k: usize = 0;
     while k < a.len() {
-        ok = ok & number::in_range(a[k]);
+        ok = ok & range::in_range(a[k]);
         k += 1;
     }
     ok

@@ -7,7 +7,7 @@ use mir.Syntax.{w32, w64}
 use mir.Val.{SFits}
 use mir.Facts.{toZ-ofZ}
 use Rattle.sample.specs.Sample.{corrected, mixed}
-use Rattle.number.proofs.Ranges.{in-fits, in-mag}
+use Rattle.range.proofs.Ranges.{in-fits, in-mag}
 use Rattle.sample.proofs.Corrections.{mixed-in, corrected-in}
 use borrow.Author.Needs.{needs, sfits-of}
 use Rattle.summing.proofs.take.Statement.{statement}

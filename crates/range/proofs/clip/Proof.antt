@@ -5,10 +5,10 @@ use native.Mathlib.Omega.{arith}
 use mir.Facts.{toZ-ofZ}
 use mir.Syntax.{w32, w64}
 use mir.Val.{SFits}
-use Rattle.number.specs.Range.{clipped}
-use Rattle.number.proofs.Ranges.{clipped-mag}
-use Rattle.number.proofs.clip.Statement.{statement}
-use Rattle.number.proofs.clip.Tie as tie
+use Rattle.range.specs.Range.{clipped}
+use Rattle.range.proofs.Ranges.{clipped-mag}
+use Rattle.range.proofs.clip.Statement.{statement}
+use Rattle.range.proofs.clip.Tie as tie
 
 held-within-requires : tie.Need-held-within-requires
 held-within-requires c κs = search needs

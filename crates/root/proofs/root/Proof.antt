@@ -2,10 +2,10 @@
 use native.Mathlib.Omega.{arith}
 use native.Mathlib.Nat.{mul-le-mul}
 use Prim.Native.Nat.{_+_, _*_, _-_, _/_, _≤_, _<_}
-use Rattle.number.specs.Root.{Root}
-use Rattle.number.proofs.Roots.{taken, one-before, root-small, root-more, root-same, root-begins, root-ends}
-use Rattle.number.proofs.root.Statement.{statement}
-use Rattle.number.proofs.root.Tie as tie
+use Rattle.root.specs.Root.{Root}
+use Rattle.root.proofs.Roots.{taken, one-before, root-small, root-more, root-same, root-begins, root-ends}
+use Rattle.root.proofs.root.Statement.{statement}
+use Rattle.root.proofs.root.Tie as tie
 
 abbrev Inv-loop : tie.InvT-loop
 Inv-loop x r₀ left₀ r left = (left ≤ 32) × Root (taken x left) r

@@ -6,7 +6,7 @@ use native.Mathlib.Omega.{arith}
 use native.Mathlib.Nat.{mul-le-mul, le-antisymm, div-div-eq-div-mul, div-le-self, div-one, pow-suc}
 use native.Mathlib.Decide.{decLe}
 use lib.Dec.{T, eqb, leb, leb→le, nleb→lt, eqb→eq}
-use Rattle.number.specs.Root.{Root, Roots, rootBy, rootOf}
+use Rattle.root.specs.Root.{Root, Roots, rootBy, rootOf}
 
 -- there is only one such number
 at-most : (x r s : ℕ) → Root x r → Root x s → r ≤ s

@@ -7,9 +7,9 @@ use lib.IntN.{ℤ, pos, negsuc}
 use lib.Signed.{mag, ltZ, leZ}
 use mir.Syntax.{w32}
 use mir.Val.{SFits}
-use Rattle.number.specs.Range.{low, high, in24, heldWithin, clipped, capped, InRange}
+use Rattle.range.specs.Range.{low, high, in24, heldWithin, clipped, capped, InRange}
 use Rattle.number.proofs.Signed.{up, dn, norm, signs, cond-is, ltZ-true, ltZ-false, le-in, le-out}
 use Rattle.number.proofs.Fits.{Size}
 
 -- a number held within two ends is one of the three
 pub held-is : (lo hi z : ℤ) (P : ℤ → Type 0) → (ltZ z lo ≡ true → P lo) → (ltZ z lo ≡ false → ltZ hi z ≡ true → P hi) → (ltZ z lo ≡ false → ltZ hi z ≡ false → P z) → P (heldWithin lo hi z)

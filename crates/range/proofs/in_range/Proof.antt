@@ -1,8 +1,8 @@
 -- `number::in_range` meets its contract.
 use mir.Facts.{toZ-ofZ}
-use Rattle.number.specs.Range.{in24}
-use Rattle.number.proofs.in_range.Statement.{statement}
-use Rattle.number.proofs.in_range.Tie as tie
+use Rattle.range.specs.Range.{in24}
+use Rattle.range.proofs.in_range.Statement.{statement}
+use Rattle.range.proofs.in_range.Tie as tie
 
 returns : tie.Need-returns
 unfolding in24

@@ -1,9 +1,9 @@
 -- `card::three_bytes` meets its contract.
 use mathlib.Core.Path.{refl}
 use Rattle.card.specs.Cards.{threeBytes}
 use borrow.Author.Needs.{needs}
-use Rattle.card.proofs.three_bytes.Statement.{statement}
-use Rattle.card.proofs.three_bytes.Tie as tie
+use Rattle.cardbytes.proofs.three_bytes.Statement.{statement}
+use Rattle.cardbytes.proofs.three_bytes.Tie as tie
 
 cast-t3 : tie.Need-cast-t3
 cast-t3 c = search needs

@@ -3,10 +3,10 @@ use mathlib.Core.Path.{_≡_, sym}
 use lib.IntN.{natAbs}
 use native.Mathlib.Omega.{arith}
 use mir.Facts.{toZ-ofZ}
-use Rattle.card.proofs.Cards.{Below, below, above}
+use Rattle.cardbytes.proofs.Cards.{Below, below, above}
 use borrow.Author.Needs.{needs}
-use Rattle.card.proofs.last_24.Statement.{statement}
-use Rattle.card.proofs.last_24.Tie as tie
+use Rattle.cardbytes.proofs.last_24.Statement.{statement}
+use Rattle.cardbytes.proofs.last_24.Tie as tie
 
 size-requires : tie.Need-size-requires
 size-requires c κs = search needs

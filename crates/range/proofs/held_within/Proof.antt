@@ -3,9 +3,9 @@ use mathlib.Core.Path.{_≡_, refl, sym, ap, _∙_}
 use mathlib.Core.Bool.{Bool, true, false, cond}
 use lib.IntN.{ℤ}
 use mir.Facts.{toZ-ofZ}
-use Rattle.number.specs.Range.{heldWithin}
-use Rattle.number.proofs.held_within.Statement.{statement}
-use Rattle.number.proofs.held_within.Tie as tie
+use Rattle.range.specs.Range.{heldWithin}
+use Rattle.range.proofs.held_within.Statement.{statement}
+use Rattle.range.proofs.held_within.Tie as tie
 
 -- the side that a test chooses
 first : (t : Bool) (a b : ℤ) → t ≡ true → a ≡ cond t a b

@@ -14,12 +14,12 @@ use borrow.Author.Tests.{ltb-true, ltb-false, lt-ltb, le-ltb, eq-eqb}
 use Rattle.serial.proofs.Every.{every-from, both}
 use Rattle.serial.proofs.Places.{tab-at, tab-of, tab-same, length-tab}
 use Rattle.serial.specs.Serials.{isSerial, serialOf, serialBytes}
 use Rattle.card.specs.Fields.{fitsField}
 use Rattle.card.specs.Cards.{bits24, threeBytes, fieldsBytes, cardBytes, threeAt, signed24, valueOf, fieldAt, digitsAt, fieldsAt, cardOf, fieldsOk, isCard}
 use Rattle.serial.specs.declared.Serial.{Serial}
 use Rattle.serial.proofs.Serials.{bytes-hold, length-padded, serial-short}
 use Rattle.card.proofs.Fields.{Value, value-in}
-use Rattle.card.proofs.Cards.{three-length}
+use Rattle.cardbytes.proofs.Cards.{three-length}
 
 -- ---- 24 bits
 bits-small : (v : ℤ) → bits24 v ≤ 16777215

@@ -10,11 +10,11 @@ use mir.Facts.{toZ-ofZ}
 use Rattle.serial.specs.Places.{put}
 use Rattle.serial.proofs.Places.{put-fits, front-put}
 use Rattle.serial.specs.Serials.{serialBytes}
 use Rattle.card.specs.Cards.{bits24, threeBytes, fieldsBytes}
-use Rattle.card.proofs.Cards.{fields-turn, fields-done}
+use Rattle.cardbytes.proofs.Cards.{fields-turn, fields-done}
 use borrow.Author.Needs.{needs}
-use Rattle.card.proofs.card_bytes.Statement.{statement}
-use Rattle.card.proofs.card_bytes.Tie as tie
+use Rattle.cardbytes.proofs.card_bytes.Statement.{statement}
+use Rattle.cardbytes.proofs.card_bytes.Tie as tie
 
 abbrev Inv-loop : tie.InvT-loop
 Inv-loop fields c₀ i₀ c i = (i ≤ 8) × (length c ≡ 37) × (take (13 + 3 * i) c ≡ take 13 c₀ ++ fieldsBytes (take i fields))
