@@ -6,10 +6,10 @@ ghost use Rattle.aberzhan.specs.Inside.{isPort, deskAt, holdAt, deskPut,
 use address::ByteAddr;
 use address::WordAddr;
 use card::Card;
+use desk::Desk;
+use desk::Desked;
+use desk::Finished;
 use meter::Meter;
-use port::desks::Desk;
-use port::desks::Desked;
-use port::desks::Finished;
 use port::holds::Copied;
 use port::holds::Held;
 use port::holds::Reading;
@@ -84,7 +84,7 @@ impl Module {
     pub fn start(n: i64, b: i64, track: [WordAddr; 6]) -> Stepped
         ensures { λ r. ⌜ r ≡ startOf n b track ⌝ }
     {
-        let r = meter::start(n, b, track);
+        let r = starting::start(n, b, track);
         let answer = r.answer;
         let after = Module::fresh(r.after);
         Stepped { answer, after }

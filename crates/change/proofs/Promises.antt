@@ -16,7 +16,7 @@ use Rattle.serial.specs.Serials.{isSerial, serialOf, serialBytes}
 use Rattle.card.specs.Fields.{fitsField, valuesFit}
 use Rattle.card.specs.Cards.{cardBytes, cardOf}
 use Rattle.serial.proofs.Serials.{length-bytes, bytes-hold}
-use Rattle.card.proofs.RoundTrip.{length-card, twelve-places, new-card, card-back}
+use Rattle.cardbytes.proofs.RoundTrip.{length-card, twelve-places, new-card, card-back}
 use Rattle.section.specs.declared.Kind.the-variants.{Cards, Serials}
 use Rattle.section.specs.Sections.{placeOf, endOf, entryAt, serialAt, entryOk, sectionOk, findIn, has}
 use Rattle.book.specs.Book.{cards, withdrawn, sized, Sized, wellFormed}
