@@ -21,7 +21,7 @@ use Rattle.cardbytes.proofs.RoundTrip.{length-card, twelve-places}
 use Rattle.section.specs.Sections.{has}
 use Rattle.section.specs.declared.Section.{Section}
 use Rattle.book.specs.Book.{cards, withdrawn, wellFormed, Sized}
-use Rattle.book.proofs.Answers.{ask-none, ask-within}
+use Rattle.lookup.proofs.Answers.{ask-none, ask-within}
 use Rattle.book.proofs.Sections.{formed-sized}
 use Rattle.change.specs.Answers.{changedAnswer}
 use Rattle.change.specs.Change.{bookIn, Takes, roomFor, Ready, addAnswer, withdrawAnswer}

@@ -5,12 +5,11 @@
 mod lines;
 mod list;
 mod orders;
-mod values;
 
 use libc::STDOUT_FILENO;
 use lines::Line;
 use orders::Order;
-use values::Value;
+use typed::Value;
 
 // The eight values of a new card, or which of them, from 1, is no whole number.
 struct Fields {
@@ -67,7 +66,7 @@ fn beside(path: &[u8], name: &mut [u8; 4096]) -> usize {
 fn value_at(k: usize) -> Value {
     let mut buffer = io::buffer();
     let n = os::arg(k, &mut buffer);
-    values::value_of(&buffer[..n])
+    typed::value_of(&buffer[..n])
 }
 
 fn read_values() -> Fields {
@@ -111,7 +110,7 @@ fn find(book: &[u8]) {
         refuse(place);
         return;
     }
-    print_card(book::card_of(book, &buffer[..n]), &buffer[..n]);
+    print_card(lookup::card_of(book, &buffer[..n]), &buffer[..n]);
 }
 
 fn check(book: &[u8]) {
