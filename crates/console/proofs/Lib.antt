@@ -7,4 +7,5 @@ pub mod UnreadLaws
 pub mod TurnLaws
 pub mod AnswerLaws
 pub mod SessionLaws
+pub mod Unchanged
 pub mod Examples

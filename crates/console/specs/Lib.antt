@@ -7,3 +7,4 @@ pub mod Unread
 pub mod Turns
 pub mod Answers
 pub mod Session
+pub mod Unchanged

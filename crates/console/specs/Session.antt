@@ -46,7 +46,7 @@ unfoldable pub talked : Talk → List ℕ → Talk
 talked t [] = t
 talked t (c ∷ cs) = talked (cond (eqb c 10) (ended t) (keeping t (c ∷ []))) cs
 
--- the whole answers to an input: before any start the module is that of a refused one, and the last line may lack its line feed
+-- the whole answers to an input: before the first accepted start the module is that of a refused one; the last line may lack its line feed
 unfoldable pub fresh : Module
 fresh = startOf (pos 0) (pos 0) (wordAddr (pos 0) ∷ wordAddr (pos 0) ∷ wordAddr (pos 0) ∷ wordAddr (pos 0) ∷ wordAddr (pos 0) ∷ wordAddr (pos 0) ∷ []) .after
 

@@ -2,8 +2,8 @@
 ghost use mathlib.Core.Path.{_≡_};
 ghost use Prim.Native.Nat.{_<_};
 ghost use lib.ListN.{length};
-ghost use Rattle.console.specs.Turns.{plainly, unreadTurn, saidOf, steppedTurn, heldSaid, heldTurn, readSaid, readTurn, cardsTurn, startedTurn, startTurn};
-ghost use Rattle.console.specs.Turns.{itemsTurn, withItems, withText, currentsTurn, withSamples, turnOf};
+ghost use Rattle.console.specs.Turns.{plainly, unreadTurn, saidOf, steppedTurn, heldSaid, heldTurn, readSaid, readTurn, cardsTurn};
+ghost use Rattle.console.specs.Turns.{startedTurn, startTurn, itemsTurn, withItems, withText, currentsTurn, withSamples, turnOf};
 use super::items::take_items;
 use super::items::take_samples;
 use super::texts::begins;
