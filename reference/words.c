@@ -56,4 +56,4 @@ const char help_lines[] =
     "# cards: the serials of the card in force and of the one that waits\n"
     "# help: these lines\n"
     "# A terminal cuts a pasted line at 4,095 bytes: send long blocks from a file, or as several blocks.\n"
-    "# Numbers are decimal, or hexadecimal behind 0x. One space parts two items. # begins a comment.\n";
+    "# Numbers are decimal, or hexadecimal behind 0x. One space parts two items. A line that begins with # is a comment.\n";

@@ -66,7 +66,7 @@ helpLines =
     ∷ "# cards: the serials of the card in force and of the one that waits"
     ∷ "# help: these lines"
     ∷ "# A terminal cuts a pasted line at 4,095 bytes: send long blocks from a file, or as several blocks."
-    ∷ "# Numbers are decimal, or hexadecimal behind 0x. One space parts two items. # begins a comment."
+    ∷ "# Numbers are decimal, or hexadecimal behind 0x. One space parts two items. A line that begins with # is a comment."
     ∷ []
 
 unfoldable pub linesOf : List String → List ℕ

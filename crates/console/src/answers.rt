@@ -16,7 +16,7 @@ use super::turns::Turn;
 use super::unread::Why;
 use serial::Serial;
 
-const HELP: [u8; 889] = *b"\
+const HELP: [u8; 909] = *b"\
     # start N B SLOT SLOT SLOT SLOT SLOT SLOT: N samples an interval, energy buckets of B, six registers to track or 0\n\
     # open PORT SERIAL: begins a card; ports are 0 and 1\n\
     # write PORT FIELD VALUE: VOFFS IOFFS VGAIN IGAIN PHASE IRMSOFFS SQUELCH POFFS, or 1 to 8\n\
@@ -28,7 +28,7 @@ const HELP: [u8; 889] = *b"\
     # cards: the serials of the card in force and of the one that waits\n\
     # help: these lines\n\
     # A terminal cuts a pasted line at 4,095 bytes: send long blocks from a file, or as several blocks.\n\
-    # Numbers are decimal, or hexadecimal behind 0x. One space parts two items. # begins a comment.\n";
+    # Numbers are decimal, or hexadecimal behind 0x. One space parts two items. A line that begins with # is a comment.\n";
 
 // Why a line is not read, in words.
 fn put_why(out: &mut [u8], used: usize, why: Why) -> usize

@@ -139,11 +139,21 @@ fn write_out(s: Session, out: &[u8]) -> More
 }
 
 fn print(text: &[u8]) -> bool {
+    if text.len() == 0 {
+        return true;
+    }
     if io::write_all(STDOUT_FILENO, text) {
         return true;
     }
     os::fail(b"console: standard output");
     false
+}
+
+// A read that fails ends the input as its end does, and is told.
+fn tell_failure(got: isize) {
+    if got < 0 {
+        os::fail(b"console: standard input");
+    }
 }
 
 // One read. Its answers are written before the next, so that whoever types sees each answer.
@@ -159,6 +169,7 @@ fn read_some(
     ensures { λ r. ⌜ Ready (r .session) (now (line .exit)) (now (out .exit)) (now (v .exit)) (now (i .exit)) (length (now (chunk .exit))) ⌝ }
 {
     let got = libc::read(STDIN_FILENO, chunk);
+    tell_failure(got);
     let n = io::count(got, chunk);
     if n == 0 {
         return More {
