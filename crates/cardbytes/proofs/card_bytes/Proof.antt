@@ -1,4 +1,4 @@
--- `card::card_bytes` meets its contract: after the serial, three bytes for each field passed.
+-- `cardbytes::card_bytes` meets its contract: after the serial, three bytes for each field passed.
 use Prim.Native.Nat.{ℕ, _+_, _*_, _-_, _≤_}
 use mathlib.Core.Path.{_≡_, sym, ap, _∙_}
 use mathlib.Core.List.{List, _++_, append-nil}

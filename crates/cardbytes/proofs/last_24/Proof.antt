@@ -1,4 +1,4 @@
--- `card::last_24` meets its contract.
+-- `cardbytes::last_24` meets its contract.
 use mathlib.Core.Path.{_≡_, sym}
 use lib.IntN.{natAbs}
 use native.Mathlib.Omega.{arith}

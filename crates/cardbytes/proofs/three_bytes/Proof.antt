@@ -1,4 +1,4 @@
--- `card::three_bytes` meets its contract.
+-- `cardbytes::three_bytes` meets its contract.
 use mathlib.Core.Path.{refl}
 use Rattle.card.specs.Cards.{threeBytes}
 use borrow.Author.Needs.{needs}

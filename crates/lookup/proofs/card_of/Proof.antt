@@ -1,4 +1,4 @@
--- `book::card_of` meets its contract.
+-- `lookup::card_of` meets its contract.
 use Prim.Native.Nat.{_+_, _≤_}
 use mathlib.Core.Path.{_≡_, refl, sym, ap, _∙_}
 use native.Mathlib.Omega.{arith}

@@ -1,4 +1,4 @@
--- `book::lookup` meets its contract.
+-- `lookup::lookup` meets its contract.
 use mathlib.Core.Path.{_≡_, sym, _∙_}
 use mathlib.Core.Bool.{true}
 use denote.Ref.{now}

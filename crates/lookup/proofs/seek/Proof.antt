@@ -1,4 +1,4 @@
--- `book::seek` meets its contract.
+-- `lookup::seek` meets its contract.
 use mathlib.Core.Path.{_≡_, refl, sym, _∙_}
 use mathlib.Core.Bool.{false}
 use lib.Dec.{ltb}

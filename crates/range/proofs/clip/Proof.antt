@@ -1,4 +1,4 @@
--- `number::clip` meets its contract: what `held_within` leaves within the ends fits an i32.
+-- `range::clip` meets its contract: what `held_within` leaves within the ends fits an i32.
 use borrow.Author.Needs.{needs, sfits-of}
 use mathlib.Core.Path.{_≡_}
 use native.Mathlib.Omega.{arith}

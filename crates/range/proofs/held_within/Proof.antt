@@ -1,4 +1,4 @@
--- `number::held_within` meets its contract.
+-- `range::held_within` meets its contract.
 use mathlib.Core.Path.{_≡_, refl, sym, ap, _∙_}
 use mathlib.Core.Bool.{Bool, true, false, cond}
 use lib.IntN.{ℤ}

@@ -1,4 +1,4 @@
--- `number::in_range` meets its contract.
+-- `range::in_range` meets its contract.
 use mir.Facts.{toZ-ofZ}
 use Rattle.range.specs.Range.{in24}
 use Rattle.range.proofs.in_range.Statement.{statement}

@@ -1,4 +1,4 @@
--- `number::root` meets its contract. The loop keeps r the root of the pairs of bits that were taken, all but the last `left`.
+-- `root::root` meets its contract. The loop keeps r the root of the pairs of bits that were taken, all but the last `left`.
 use native.Mathlib.Omega.{arith}
 use native.Mathlib.Nat.{mul-le-mul}
 use Prim.Native.Nat.{_+_, _*_, _-_, _/_, _≤_, _<_}

@@ -1,4 +1,4 @@
--- `counter::values::hold` meets its contract.
+-- `typed::hold` meets its contract.
 use mathlib.Core.Path.{sym}
 use native.Mathlib.Omega.{arith}
 use Rattle.typed.proofs.Laws.{held-small, held-large}

@@ -1,4 +1,4 @@
--- `counter::values::is_numeral` meets its contract.
+-- `typed::is_numeral` meets its contract.
 use Rattle.typed.specs.Values.{isNumeral}
 use borrow.Author.Needs.{needs}
 use Rattle.typed.proofs.is_numeral.Statement.{statement}

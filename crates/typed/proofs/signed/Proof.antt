@@ -1,4 +1,4 @@
--- `counter::values::signed` meets its contract.
+-- `typed::signed` meets its contract.
 use mathlib.Core.Path.{_≡_, refl}
 use native.Mathlib.Omega.{arith}
 use lib.IntN.{pos, _-ℤ_}

@@ -1,4 +1,4 @@
--- `counter::values::size_of` meets its contract: the loop takes one digit after another.
+-- `typed::size_of` meets its contract: the loop takes one digit after another.
 use Prim.Native.Nat.{ℕ, _+_, _-_, _*_, _≤_}
 use mathlib.Core.Path.{_≡_, refl, sym, ap, _∙_}
 use native.Mathlib.Omega.{arith}

@@ -1,4 +1,4 @@
--- `counter::values::sized` meets its contract.
+-- `typed::sized` meets its contract.
 use mathlib.Core.Path.{refl}
 use mir.Syntax.{w64}
 use mir.Facts.{toZ-ofZ}

@@ -1,4 +1,4 @@
--- `counter::values::value_of` meets its contract.
+-- `typed::value_of` meets its contract.
 use Prim.Native.Nat.{_≤_, _-_}
 use mathlib.Core.Path.{_≡_, sym, ap, _∙_}
 use mathlib.Core.Bool.{true}
