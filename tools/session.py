@@ -41,10 +41,10 @@ def number(word, names=()):
 
 
 class Card:
-    """A card of a session: its fields as they are written, where it was committed and from which sample on it counts."""
+    """A card of a session: the fields that are written and not told yet, where it was committed and from which sample on it counts."""
 
     def __init__(self, serial, port):
-        self.serial, self.port, self.fields, self.unsaid = serial, port, {}, {}
+        self.serial, self.port, self.unsaid = serial, port, {}
         self.committed = self.first = None
         self.end, self.colour, self.name = "still open", NO_CARD, serial
 
@@ -116,7 +116,7 @@ class Session:
 
     def refused(self, lane, said):
         if not self.ok:
-            self.say_written()
+            self.say_written(lane)
             self.say_no(lane, said)
         return not self.ok
 
@@ -144,28 +144,28 @@ class Session:
         name = FIELDS[field - 1] if 1 <= field <= 8 else f"field {field}"
         if self.refused(f"fitter {port}", f"{name} {number(value):,}"):
             return
-        card = self.desks[port]
-        card.fields[field] = card.unsaid[field] = number(value)
+        self.desks[port].unsaid[field] = number(value)
 
-    def say_written(self):
-        """Tells the fields that were written since they were last told, at both ports."""
-        for port, card in self.desks.items():
+    def say_written(self, *lanes):
+        """Tells the fields that were written since they were last told, in these lanes or in all."""
+        for lane, card in ((f"fitter {port}", card) for port, card in self.desks.items()):
+            if lanes and lane not in lanes:
+                continue
             for field, value in sorted(card.unsaid.items()):
                 if value:
                     times = f" (times {value / 2**21:.6g})" if field in (3, 4) else ""
-                    self.say(f"fitter {port}", f"{FIELDS[field - 1]} {value:,}{times}", INK, card)
+                    self.say(lane, f"{FIELDS[field - 1]} {value:,}{times}", INK, card)
             zero = [FIELDS[field - 1] for field, value in sorted(card.unsaid.items()) if value == 0]
-            if zero and len(card.unsaid) == 8:
-                self.say(f"fitter {port}", f"the other {len(zero)} fields 0", INK, card)
-            elif zero:
-                self.say(f"fitter {port}", f"{', '.join(zero)} 0" if len(zero) < 4 else f"{len(zero)} fields 0", INK, card)
+            if zero:
+                names = ", ".join(zero) if len(zero) < 4 else f"{len(zero)} fields"
+                self.say(lane, f"the other {len(zero)} fields 0" if len(card.unsaid) == 8 else f"{names} 0", INK, card)
             card.unsaid = {}
 
     def commit(self, port):
         lane = f"fitter {port}"
         if self.refused(lane, "commit"):
             return
-        self.say_written()
+        self.say_written(lane)
         card = self.desks.pop(port)
         if self.waiting:
             self.waiting.end = "replaced before any sample"
@@ -174,9 +174,10 @@ class Session:
         self.say(lane, lambda: f"committed, {card.end}", INK, card).full = True
 
     def drop(self, port):
-        if not self.refused(f"fitter {port}", "drop"):
-            self.say_written()
-            self.say(f"fitter {port}", "dropped", INK, self.desks.pop(port)).full = True
+        lane = f"fitter {port}"
+        if not self.refused(lane, "drop"):
+            self.say_written(lane)
+            self.say(lane, "dropped", INK, self.desks.pop(port)).full = True
 
     def block(self, *words):
         bar = words.index("|")
