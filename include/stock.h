@@ -65,7 +65,7 @@ enum {
 #define STOCK_SERIAL_BYTES 13 /* a serial in a book */
 #define STOCK_CARD_BYTES 37   /* a card */
 #define STOCK_BOOK_BYTES 44548 /* the longest book */
-#define STOCK_WORDS_BYTES 40  /* the longest words of a refusal */
+#define STOCK_WORDS_BYTES 40  /* room for the words of any refusal; the longest are 37 bytes */
 
 #ifdef __cplusplus
 extern "C" {
@@ -96,11 +96,14 @@ size_t stock_card(const uint8_t *book, size_t book_length, size_t k);
 size_t stock_withdrawn(const uint8_t *book, size_t book_length, size_t k);
 
 /* Puts the digits of the serial that a card or a withdrawn entry begins with at the front of a text, with no end
- * mark, and gives their number. Refusals: 2 where these are not 13 bytes of a serial, 21 where the text is too short. */
+ * mark, and gives their number. The entry's length is 13 or more, of which the first 13 are looked at: a card's 37 will
+ * do. The text needs as many bytes as there are digits; 12 are always enough. Refusals: 2 where the entry is shorter
+ * than 13 bytes or does not begin with those of a serial, 21 where the text is too short. */
 int64_t stock_serial(const uint8_t *entry, size_t entry_length, uint8_t *text, size_t text_length);
 
-/* Puts the eight fields of the card in 37 bytes at the front of an array, in order, and gives 8. Refusals: 2 where
- * these are not the 37 bytes of a card, 21 where the array has fewer than eight places. */
+/* Puts the eight fields of the card in 37 bytes at the front of an array, in order, and gives 8. The card's length is
+ * 37, neither less nor more; fields_length counts numbers, not bytes, and is 8 or more. Refusals: 2 where these are not
+ * the 37 bytes of a card, 21 where the array has fewer than eight places. */
 int64_t stock_fields(const uint8_t *card, size_t card_length, int64_t *fields, size_t fields_length);
 
 /* Puts the words of a refusal's number, 1 to 21, at the front of a text, with no end mark, and gives how many bytes

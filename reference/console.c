@@ -1,20 +1,21 @@
-/* console.c: the program reference-console: a step a line on standard input, an answer a line on standard output. */
+/* console.c: the program reference-console: a step a line on standard input, an answer to each on standard output. */
 #include <inttypes.h>
 #include <stdio.h>
 
 #include "line.h"
 #include "module.h"
 
-/* A line without its line feed. A longer line keeps its first bytes and its length stays at LINE_MOST + 1. */
+/* A line without its end. A longer line keeps its first bytes. */
 struct line {
     unsigned char byte[LINE_MOST];
     size_t length;
 };
 
-/* False when nothing is left. */
+/* False when nothing is left. A carriage return right before the line feed or the end of the input is no part of the
+ * line. */
 static bool next_line(struct line *line)
 {
-    int byte = getchar();
+    int byte = getchar(), last = EOF;
 
     if (byte == EOF)
         return false;
@@ -22,27 +23,40 @@ static bool next_line(struct line *line)
     while (byte != EOF && byte != '\n') {
         if (line->length < LINE_MOST)
             line->byte[line->length] = (unsigned char)byte;
-        if (line->length <= LINE_MOST)
-            line->length++;
+        line->length++;
+        last = byte;
         byte = getchar();
     }
+    if (last == '\r')
+        line->length--;
     return true;
 }
 
 /* What an accepted step says after its ok. */
-struct words {
+struct said {
     int64_t value;
     uint32_t number;
     struct serial serial;
 };
 
-static int take_step(struct module *module, const struct step *step, struct words *words)
+/* A refused start keeps the module. */
+static int start(struct module *module, const int64_t *number)
+{
+    static struct module fresh;
+    int refusal = module_start(&fresh, number[0], number[1], number + 2);
+
+    if (refusal == 0)
+        *module = fresh;
+    return refusal;
+}
+
+static int take_step(struct module *module, const struct step *step, struct said *said)
 {
     const int64_t *number = step->number;
 
     switch (step->kind) {
     case START:
-        return module_start(module, number[0], number[1], number + 2);
+        return start(module, number);
     case OPEN:
         return module_open(module, number[0], step->text, step->text_length);
     case WRITE:
@@ -52,28 +66,58 @@ static int take_step(struct module *module, const struct step *step, struct word
     case DROP:
         return module_drop(module, number[0]);
     case HOLD:
-        return module_hold(module, number[0], &words->number, &words->serial);
+        return module_hold(module, number[0], &said->number, &said->serial);
     case READ:
-        return module_read(module, number[0], number[1], &words->value);
+        return module_read(module, number[0], number[1], &said->value);
     case BLOCK:
         return module_block(module, step->voltage, step->voltages, step->current, step->currents);
+    case CARDS:
+    case HELP:
+        break;
     }
     return 0;
 }
 
+static void put_serial(const struct serial *serial)
+{
+    printf(" %.*s", (int)serial->length, (const char *)serial->digit);
+}
+
+/* The serial of a card, if there is one. */
+static void put_card(bool there, const struct card *card)
+{
+    if (there)
+        put_serial(&card->serial);
+    else
+        fputs(" -", stdout);
+}
+
+static void put_accepted(const struct module *module, enum kind kind, const struct said *said)
+{
+    fputs("ok", stdout);
+    if (kind == HOLD) {
+        printf(" %" PRIu32, said->number);
+        put_serial(&said->serial);
+    } else if (kind == READ) {
+        printf(" %" PRId64, said->value);
+    } else if (kind == CARDS) {
+        put_card(module->has_card, &module->card);
+        put_card(module->card_waits, &module->waiting);
+    }
+    putchar('\n');
+}
+
 static void answer(struct module *module, const struct step *step)
 {
-    struct words words;
-    int refusal = take_step(module, step, &words);
+    struct said said;
+    int refusal = take_step(module, step, &said);
 
     if (refusal != 0)
-        printf("REFUSED %d\n", refusal);
-    else if (step->kind == HOLD)
-        printf("ok %" PRIu32 " %.*s\n", words.number, (int)words.serial.length, (const char *)words.serial.digit);
-    else if (step->kind == READ)
-        printf("ok %" PRId64 "\n", words.value);
+        printf("REFUSED %d: %s\n", refusal, refusal_words(refusal));
+    else if (step->kind == HELP)
+        fputs(help_lines, stdout);
     else
-        puts("ok");
+        put_accepted(module, step->kind, &said);
 }
 
 int main(void)
@@ -85,12 +129,16 @@ int main(void)
 
     module_start(&module, 0, 0, nothing); /* refused: the module of a refused start */
     while (next_line(&line)) {
+        enum unread unread = TOO_LONG;
+
         if (line.length == 0 || line.byte[0] == '#')
             continue;
-        if (line.length <= LINE_MOST && line_parse(&step, line.byte, line.length))
+        if (line.length <= LINE_MOST)
+            unread = line_parse(&step, line.byte, line.length);
+        if (unread == NONE)
             answer(&module, &step);
         else
-            puts("UNREAD");
+            printf("UNREAD: %s\n", unread_words(unread));
     }
     return fflush(stdout) == 0 && !ferror(stdin) ? 0 : 1;
 }

@@ -3,9 +3,25 @@
 
 #include <string.h>
 
+#include "names.h"
+
 /* What is left of the line. */
 struct rest {
     const unsigned char *at, *end;
+};
+
+/* What stands between two spaces; it may be empty. */
+struct item {
+    const unsigned char *at;
+    size_t length;
+};
+
+/* A step's word, and its items: n a number, f a field, w a register by its word address, b by its byte address, t text.
+ */
+struct form {
+    const char *word;
+    enum kind kind;
+    const char *items;
 };
 
 static bool at_end(const struct rest *rest)
@@ -22,6 +38,22 @@ static bool take_byte(struct rest *rest, unsigned char byte)
     return true;
 }
 
+/* All up to the next space or the line's end. */
+static struct item take_item(struct rest *rest)
+{
+    struct item item = {rest->at, 0};
+
+    while (!at_end(rest) && *rest->at != ' ')
+        rest->at++;
+    item.length = (size_t)(rest->at - item.at);
+    return item;
+}
+
+static bool is_word(struct item item, const char *word)
+{
+    return item.length == strlen(word) && memcmp(item.at, word, item.length) == 0;
+}
+
 static int digit_of(unsigned char byte, int base)
 {
     int digit = -1;
@@ -35,42 +67,77 @@ static int digit_of(unsigned char byte, int base)
     return digit < base ? digit : -1;
 }
 
-/* At least one digit, up to the line's end or the next space, coming to at most `most`. */
-static bool take_digits(struct rest *rest, int base, uint64_t most, uint64_t *value)
+/* At least one digit, and nothing else, coming to at most `most`. */
+static bool all_digits(struct rest digits, int base, uint64_t most, uint64_t *value)
 {
-    const unsigned char *first = rest->at;
+    const unsigned char *first = digits.at;
 
     *value = 0;
-    while (!at_end(rest) && *rest->at != ' ') {
-        int digit = digit_of(*rest->at, base);
+    for (; !at_end(&digits); digits.at++) {
+        int digit = digit_of(*digits.at, base);
 
         if (digit < 0 || *value > (most - (uint64_t)digit) / (uint64_t)base)
             return false;
         *value = *value * (uint64_t)base + (uint64_t)digit;
-        rest->at++;
     }
-    return rest->at != first;
+    return digits.at != first;
 }
 
-/* A space and a number. */
-static bool take_number(struct rest *rest, int64_t *number)
+static bool is_number(struct item item, int64_t *number)
 {
+    struct rest rest = {item.at, item.at + item.length};
     uint64_t size;
-    bool hexadecimal, negative;
+    bool hexadecimal = item.length >= 2 && item.at[0] == '0' && item.at[1] == 'x';
+    bool negative = !hexadecimal && take_byte(&rest, '-');
 
-    if (!take_byte(rest, ' '))
-        return false;
-    hexadecimal = rest->end - rest->at >= 2 && rest->at[0] == '0' && rest->at[1] == 'x';
     if (hexadecimal)
-        rest->at += 2;
-    negative = !hexadecimal && take_byte(rest, '-');
-    if (!take_digits(rest, hexadecimal ? 16 : 10, (uint64_t)INT64_MAX + negative, &size))
+        rest.at += 2;
+    if (!all_digits(rest, hexadecimal ? 16 : 10, (uint64_t)INT64_MAX + negative, &size))
         return false;
     if (size > (uint64_t)INT64_MAX)
         *number = INT64_MIN;
     else
         *number = negative ? -(int64_t)size : (int64_t)size;
     return true;
+}
+
+/* A number, or what a name stands for where the form has a name. */
+static enum unread value_of(struct item item, char what, int64_t *number)
+{
+    if (is_number(item, number))
+        return NONE;
+    if (what == 'n')
+        return NO_NUMBER;
+    if (what == 'f')
+        *number = field_named(item.at, item.length);
+    else
+        *number = register_named(item.at, item.length) * (what == 'b' ? 3 : 1);
+    if (*number != 0)
+        return NONE;
+    return what == 'f' ? NO_FIELD : NO_REGISTER;
+}
+
+/* The rest of the line, whatever bytes it has. */
+static void take_text(struct step *step, struct rest *rest)
+{
+    step->text = rest->at;
+    step->text_length = (size_t)(rest->end - rest->at);
+    rest->at = rest->end;
+}
+
+static enum unread take_items(struct step *step, struct rest *rest, const char *items)
+{
+    enum unread unread = NONE;
+
+    for (size_t k = 0; items[k] != '\0' && unread == NONE; k++) {
+        if (!take_byte(rest, ' '))
+            return ITEM_MISSING;
+        if (items[k] == 't')
+            take_text(step, rest);
+        else
+            unread = value_of(take_item(rest), items[k], &step->number[k]);
+    }
+    return unread != NONE || at_end(rest) ? unread : MORE_ITEMS;
 }
 
 /* A space and a bar. */
@@ -84,66 +151,49 @@ static bool take_bar(struct rest *rest)
     return true;
 }
 
-static bool take_sample(struct rest *rest, int32_t *side, size_t *count)
+static enum unread take_sample(struct rest *rest, int32_t *side, size_t *count)
 {
     int64_t number;
 
-    if (*count == SIDE_MOST || !take_number(rest, &number) || number < INT32_MIN || number > INT32_MAX)
-        return false;
+    if (!take_byte(rest, ' '))
+        return NO_SAMPLE; /* right behind the bar */
+    if (*count == SIDE_MOST)
+        return MORE_SAMPLES;
+    if (!is_number(take_item(rest), &number) || number < INT32_MIN || number > INT32_MAX)
+        return NO_SAMPLE;
     side[(*count)++] = (int32_t)number;
-    return true;
+    return NONE;
 }
 
-static bool take_block(struct step *step, struct rest *rest)
+static enum unread take_block(struct step *step, struct rest *rest)
 {
+    enum unread unread = NONE;
+
     step->voltages = 0;
     step->currents = 0;
-    while (!take_bar(rest))
-        if (!take_sample(rest, step->voltage, &step->voltages))
-            return false;
-    while (!at_end(rest))
-        if (!take_sample(rest, step->current, &step->currents))
-            return false;
-    return true;
+    while (unread == NONE && !take_bar(rest))
+        unread = at_end(rest) ? NO_BAR : take_sample(rest, step->voltage, &step->voltages);
+    while (unread == NONE && !at_end(rest))
+        unread = take_sample(rest, step->current, &step->currents);
+    return unread;
 }
 
-/* The rest of the line, whatever bytes it has. */
-static bool take_text(struct step *step, struct rest *rest)
+enum unread line_parse(struct step *step, const unsigned char *line, size_t length)
 {
-    if (!take_byte(rest, ' '))
-        return false;
-    step->text = rest->at;
-    step->text_length = (size_t)(rest->end - rest->at);
-    rest->at = rest->end;
-    return true;
-}
-
-bool line_parse(struct step *step, const unsigned char *line, size_t length)
-{
-    static const struct {
-        const char *word;
-        enum kind kind;
-        size_t numbers;
-    } form[] = {
-        {"start", START, 8}, {"open", OPEN, 1}, {"write", WRITE, 3}, {"commit", COMMIT, 1},
-        {"drop", DROP, 1},   {"hold", HOLD, 1}, {"read", READ, 2},   {"block", BLOCK, 0},
+    static const struct form form[] = {
+        {"start", START, "nnwwwwww"}, {"open", OPEN, "nt"}, {"write", WRITE, "nfn"}, {"commit", COMMIT, "n"},
+        {"drop", DROP, "n"},          {"hold", HOLD, "n"},  {"read", READ, "nb"},    {"block", BLOCK, ""},
+        {"cards", CARDS, ""},         {"help", HELP, ""},
     };
-    const unsigned char *space = memchr(line, ' ', length);
-    size_t word = space ? (size_t)(space - line) : length;
+    const size_t forms = sizeof form / sizeof form[0];
+    struct rest rest = {line, line + length};
+    struct item word = take_item(&rest);
     size_t k = 0;
-    struct rest rest = {line + word, line + length};
 
-    while (k < 8 && !(strlen(form[k].word) == word && memcmp(form[k].word, line, word) == 0))
+    while (k < forms && !is_word(word, form[k].word))
         k++;
-    if (k == 8)
-        return false;
+    if (k == forms)
+        return NO_STEP;
     step->kind = form[k].kind;
-    for (size_t n = 0; n < form[k].numbers; n++)
-        if (!take_number(&rest, &step->number[n]))
-            return false;
-    if (step->kind == OPEN && !take_text(step, &rest))
-        return false;
-    if (step->kind == BLOCK && !take_block(step, &rest))
-        return false;
-    return at_end(&rest);
+    return step->kind == BLOCK ? take_block(step, &rest) : take_items(step, &rest, form[k].items);
 }

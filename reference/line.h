@@ -6,20 +6,22 @@
 #include <stddef.h>
 #include <stdint.h>
 
+#include "words.h"
+
 enum { LINE_MOST = 131071, SIDE_MOST = 8192, NUMBERS_MOST = 8 };
 
-enum kind { START, OPEN, WRITE, COMMIT, DROP, HOLD, READ, BLOCK };
+enum kind { START, OPEN, WRITE, COMMIT, DROP, HOLD, READ, BLOCK, CARDS, HELP };
 
 struct step {
     enum kind kind;
-    int64_t number[NUMBERS_MOST]; /* in the line's order */
+    int64_t number[NUMBERS_MOST]; /* in the line's order; a name has become its number */
     const unsigned char *text;    /* of an open: within the line */
     size_t text_length;
     int32_t voltage[SIDE_MOST], current[SIDE_MOST];
     size_t voltages, currents;
 };
 
-/* False when the line is no step: the answer is then UNREAD. */
-bool line_parse(struct step *step, const unsigned char *line, size_t length);
+/* Answers NONE, or why a line of at most LINE_MOST bytes is no step. */
+enum unread line_parse(struct step *step, const unsigned char *line, size_t length);
 
 #endif

@@ -4,7 +4,7 @@
 #include "random.h"
 #include "script.h"
 
-enum { STEPS = 400, ALL_WRITTEN = 255, REGISTERS = 21 };
+enum { STEPS = 400, ALL_WRITTEN = 255 };
 
 /* The eight settings, one of them out of range or none (-1). */
 static void put_settings(int64_t n, int bad)
@@ -13,26 +13,43 @@ static void put_settings(int64_t n, int bad)
     put_number(bad == 1 ? PICK(0, -1, INT64_C(281474976710656), INT64_C(281474976710656), bad_number(0))
                         : good_bucket());
     for (int k = 2; k < 8; k++)
-        put_number(bad == k ? bad_word() : good_word());
+        put_word(bad == k ? bad_word() : good_word());
 }
 
-static void put_one_start(struct belief *belief)
+static void put_cards(void)
 {
-    int64_t budget = belief->budget, n = good_samples();
-    int bad = chance(20) ? (int)PICK(0, 0, 1, 1, 2, 3, 4, 5, 6, 7) : -1;
-
-    *belief = (struct belief){.manner = (enum manner)draw(MANNERS), .samples = bad < 0 ? n : 1, .budget = budget};
-    fputs("start", stdout);
-    put_settings(n, bad);
-    putchar('\n');
+    fputs("cards", stdout);
+    put_end();
 }
 
-/* A refused start leaves a module that shows little, so another mostly follows. */
+static void put_help(void)
+{
+    fputs("help", stdout);
+    put_end();
+}
+
+/* A refused start keeps the module, so the belief stays. */
+static void put_refused_start(void)
+{
+    fputs("start", stdout);
+    put_settings(good_samples(), (int)PICK(0, 0, 1, 1, 2, 3, 4, 5, 6, 7));
+    put_end();
+    if (chance(60))
+        put_cards();
+}
+
 static void put_start(struct belief *belief)
 {
-    do
-        put_one_start(belief);
-    while (belief->samples == 1 && chance(70));
+    int64_t budget = belief->budget, n = good_samples();
+
+    if (chance(20))
+        put_refused_start();
+    *belief = (struct belief){.manner = (enum manner)draw(MANNERS), .samples = n, .budget = budget};
+    fputs("start", stdout);
+    put_settings(n, -1);
+    put_end();
+    if (chance(30))
+        put_cards();
 }
 
 static void put_open(struct belief *belief, int port)
@@ -45,7 +62,7 @@ static void put_open(struct belief *belief, int port)
         put_bad_serial();
     else
         put_serial();
-    putchar('\n');
+    put_end();
     if (!bad && !belief->port[port].open) {
         belief->port[port].open = true;
         belief->port[port].written = 0;
@@ -62,10 +79,10 @@ static void put_write(struct belief *belief, int port, int field)
         put_number(PICK(0, 9, -1, 10, bad_number(field)));
         put_number(chance(50) ? good_field(belief->manner, field) : INT64_MAX);
     } else {
-        put_number(field);
+        put_field(field);
         put_number(bad ? bad_field_value(field) : good_field(belief->manner, field));
     }
-    putchar('\n');
+    put_end();
     if (!bad && belief->port[port].open)
         belief->port[port].written |= 1u << (field - 1);
 }
@@ -74,18 +91,20 @@ static void put_commit(struct belief *belief, int port)
 {
     fputs("commit", stdout);
     put_port(port);
-    putchar('\n');
+    put_end();
     if (belief->port[port].open && belief->port[port].written == ALL_WRITTEN) {
         belief->port[port].open = false;
         belief->waits = true;
     }
+    if (chance(25))
+        put_cards();
 }
 
 static void put_drop(struct belief *belief, int port)
 {
     fputs("drop", stdout);
     put_port(port);
-    putchar('\n');
+    put_end();
     belief->port[port].open = false;
 }
 
@@ -93,7 +112,7 @@ static void put_hold(struct belief *belief, int port)
 {
     fputs("hold", stdout);
     put_port(port);
-    putchar('\n');
+    put_end();
     belief->port[port].held = belief->closed;
 }
 
@@ -101,8 +120,8 @@ static void put_read(int port, int64_t address)
 {
     fputs("read", stdout);
     put_port(port);
-    put_number(address);
-    putchar('\n');
+    put_address(address);
+    put_end();
 }
 
 static int unwritten_field(unsigned written)
@@ -193,11 +212,19 @@ static int something(struct belief *belief)
 
     if (what < 8)
         put_start(belief);
-    else if (what < 50)
+    else if (what < 15)
+        put_refused_start();
+    else if (what < 65)
         put_oddity();
-    else if (what < 70)
-        put_silence();
+    else if (what < 80)
+        put_odd_name();
     else if (what < 100)
+        put_silence();
+    else if (what < 103)
+        put_help();
+    else if (what < 125)
+        put_cards();
+    else if (what < 155)
         return whole_card(belief, port);
     else if (what < 450)
         at_desk(belief, port);
@@ -227,9 +254,11 @@ int main(int argc, char **argv)
         steps += whole_card(&belief, (int)draw(2));
     while (steps < STEPS)
         steps += something(&belief);
-    if (chance(25))
+    if (chance(50))
         put_long_line();
+    if (chance(80))
+        put_full_side();
     whole_reading(&belief, (int)draw(2));
-    fputs(chance(50) ? "hold 0" : "hold 1\n", stdout);
+    put_last_line();
     return fflush(stdout) == 0 ? 0 : 1;
 }

@@ -131,7 +131,7 @@ static void put_sides(size_t voltages, size_t currents)
     put_side(voltage, voltages);
     fputs(" |", stdout);
     put_side(current, currents);
-    putchar('\n');
+    put_end();
 }
 
 void put_block(struct belief *belief)

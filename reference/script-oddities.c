@@ -1,11 +1,11 @@
-/* script-oddities.c: lines that are no step, or hardly one; lines without an answer; lines at the greatest length. */
+/* script-oddities.c: lines that are no step, or hardly one; lines without an answer; lines at their ends of length. */
 #include <stdio.h>
 #include <string.h>
 
 #include "random.h"
 #include "script.h"
 
-enum { LONGEST_LINE = 131071 };
+enum { LONGEST_LINE = 131071, FULL_SIDE = 8192 };
 
 /* Numbers that are none, and some that are. */
 static const char *const number[] = {
@@ -53,6 +53,11 @@ static const char *const number[] = {
     "|",
     "0x ",
     " 1",
+    "VGAIN",
+    "IA_RMS",
+    "MIN1",
+    "OFF",
+    "1\r2",
 };
 
 /* Whole lines. */
@@ -155,6 +160,60 @@ static const char *const line[] = {
     "quit",
     "open 0 #",
     "drop 0 # x",
+    "help",
+    "help",
+    "help ",
+    "help 0",
+    "help help",
+    "Help",
+    "hel",
+    "helps",
+    "cards ",
+    "cards 0",
+    "card",
+    "cardss",
+    "Cards",
+    " cards",
+    "cards\t",
+    "?",
+    "hold 0 x y",
+    "hold x 0",
+    "start x",
+    "start 1 1 x",
+    "start 1 1 0 0 0 0 0 x",
+    "start 1 1 0 0 0 0 0 0 x",
+    "start IA_RMS 1 0 0 0 0 0 0",
+    "open x",
+    "write x VGAIN",
+    "write 0 x",
+    "write 0 VGAIN",
+    "write 0 VGAIN ",
+    "write 0 VGAIN x",
+    "write 0 VGAIN VGAIN",
+    "write VGAIN VGAIN 1",
+    "read x x",
+    "read 0 x 1",
+    "read IA_RMS",
+    "read IA_RMS 0",
+    "block 1 x",
+    "block 1 VA_RMS | 1",
+    "block 1 ",
+    "block 1 9223372036854775808 | 1",
+    "hold 0\r\r",
+    "hold\r 0",
+    "hold \r0",
+    "ho\rld 0",
+    "\rhold 0",
+    "cards\r\r",
+    "\r\r",
+    "\r#",
+    " \r",
+    "block 1\r | 1",
+    "block 1 |\r 1",
+    "block |\r",
+    "write 0 VGAIN\r 1",
+    "open 0 04\r17",
+    "open 1 \r",
 };
 
 /* A step with one odd number in it. */
@@ -186,16 +245,20 @@ static void put_odd_number(void)
 
     fwrite(form[which], 1, (size_t)(gap - form[which]), stdout);
     fputs(number[draw(sizeof number / sizeof number[0])], stdout);
-    puts(gap + 2);
+    fputs(gap + 2, stdout);
+    put_end();
 }
+
+/* Lines that are steps, to be spoiled. */
+static const char *const good[] = {
+    "hold 0",           "commit 1", "drop 0",      "write 0 3 2097152", "read 1 0x1A1",
+    "block 1 -2 | 3 4", "block |",  "open 1 0417", "write 1 1 -8388",   "start 3 9 0x2B 0 0x8B 0 0 75",
+    "hold 0x1",         "cards",    "help",        "read 0 PA_POS_CNT", "write 0 IGAIN 2097152",
+    "read 1 MAX1"};
 
 /* A good line with one byte too many, too few, or another. */
 static void put_spoiled(void)
 {
-    static const char *const good[] = {
-        "hold 0",           "commit 1", "drop 0",      "write 0 3 2097152", "read 1 0x1A1",
-        "block 1 -2 | 3 4", "block |",  "open 1 0417", "write 1 1 -8388",   "start 3 9 0x2B 0 0x8B 0 0 75",
-        "hold 0x1"};
     const char *line = good[draw(sizeof good / sizeof good[0])];
     size_t length = strlen(line), at = chance(30) ? length : draw(length);
     char byte = " -+0x|\t\r#9aF\0 \r"[draw(16)];
@@ -205,30 +268,48 @@ static void put_spoiled(void)
         putchar(byte);
     if (at < length)
         fputs(line + at + (chance(50) ? 1 : 0), stdout);
-    putchar('\n');
+    put_end();
+}
+
+/* A good line that ends before one of its items, or goes on behind the last. */
+static void put_cut_or_longer(void)
+{
+    const char *line = good[draw(sizeof good / sizeof good[0])];
+    const char *space = strchr(line + draw(strlen(line)), ' ');
+
+    fwrite(line, 1, space ? (size_t)(space - line) : strlen(line), stdout);
+    if (!space)
+        fputs(chance(50) ? " " : " 0", stdout);
+    put_end();
 }
 
 void put_oddity(void)
 {
     size_t which = draw(sizeof line / sizeof line[0]);
 
-    if (chance(40))
+    if (chance(35))
         put_odd_number();
+    else if (chance(20))
+        put_cut_or_longer();
     else if (chance(40))
         put_spoiled();
     else if (chance(8))
         fwrite("hold\0 0\n", 1, 8, stdout);
     else if (chance(8))
         fwrite("hold 0\0\n", 1, 8, stdout);
-    else
-        puts(line[which]);
+    else {
+        fputs(line[which], stdout);
+        put_end();
+    }
 }
 
 void put_silence(void)
 {
-    static const char *const silent[] = {"", "#", "# a comment", "#start 1 1 0 0 0 0 0 0", "##", "# \t\xff"};
+    static const char *const silent[] = {"",   "#",   "# a comment", "#start 1 1 0 0 0 0 0 0", "##", "# \t\xff",
+                                         "\r", "#\r", "# \r x"};
 
-    puts(silent[draw(sizeof silent / sizeof silent[0])]);
+    fputs(silent[draw(sizeof silent / sizeof silent[0])], stdout);
+    put_end();
 }
 
 static void put_times(char byte, size_t count)
@@ -237,13 +318,14 @@ static void put_times(char byte, size_t count)
         putchar(byte);
 }
 
-/* The beginning of a line, and then one byte as often as makes it this long. */
+/* The beginning of a line, and then one byte as often as makes it this long, without a carriage return behind it. */
 void put_long_line(void)
 {
-    static const char *const beginning[] = {"open 0 ", "open 1 4", "open 7 ", "hold 0",
-                                            "hold 0x", "# ",       "x",       "block 1 | "};
+    static const char *const beginning[] = {"open 0 ", "open 1 4", "open 7 ", "hold 0",    "hold 0x",
+                                            "# ",      "#",        "x",       "block 1 | "};
     const char *start = beginning[draw(sizeof beginning / sizeof beginning[0])];
-    size_t length = (size_t)PICK(LONGEST_LINE - 1, LONGEST_LINE, LONGEST_LINE + 1, 2 * LONGEST_LINE + 2, 300000);
+    size_t length = (size_t)PICK(LONGEST_LINE - 1, LONGEST_LINE, LONGEST_LINE, LONGEST_LINE + 1, LONGEST_LINE + 1,
+                                 LONGEST_LINE + 2, 2 * LONGEST_LINE + 2, 300000);
 
     fputs(start, stdout);
     if (chance(50))
@@ -252,5 +334,26 @@ void put_long_line(void)
         put_times('0', length - strlen(start) - 2);
         fputs(chance(50) ? " 0" : "01", stdout);
     }
-    putchar('\n');
+    puts(chance(50) ? "\r" : "");
+}
+
+/* A block with 8,192 samples on a side, and something behind them. */
+void put_full_side(void)
+{
+    static const char *const behind[] = {"",    " ",    " 1",   " x",   " |", " |1",
+                                         " |1", " | 1", " x |", " | |", "|",  " 2147483648"};
+
+    fputs(chance(50) ? "block" : "block |", stdout);
+    for (int k = 0; k < FULL_SIDE; k++)
+        fputs(" 1", stdout);
+    fputs(behind[draw(sizeof behind / sizeof behind[0])], stdout);
+    put_end();
+}
+
+void put_last_line(void)
+{
+    static const char *const last[] = {"hold 0", "hold 1\n",  "hold 0\r",   "hold 1\r\n", "cards\r",
+                                       "\r",     "cards\r\r", "hold 0\n\r", "hold \r",    "# the end\r"};
+
+    fputs(last[draw(sizeof last / sizeof last[0])], stdout);
 }

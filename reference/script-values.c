@@ -45,6 +45,14 @@ int64_t bad_number(int64_t near)
     return PICK(INT64_MAX, INT64_MIN, -1, INT64_C(2147483648), INT64_C(4294967296), INT64_C(-2147483649));
 }
 
+/* The end of a line, now and then with a carriage return. */
+void put_end(void)
+{
+    if (chance(4))
+        putchar('\r');
+    putchar('\n');
+}
+
 void put_port(int port)
 {
     put_number(chance(2) ? PICK(2, -1, 256, 257, 3, bad_number(port)) : port);
@@ -127,6 +135,54 @@ static int64_t table_word(int which)
     static const int64_t word[9] = {0x2B, 0x3E, 0x46, 0x4B, 0x4E, 0x65, 0x8B, 0x8F, 0x92};
 
     return which < 9 ? word[which] : 0x71 + which - 9;
+}
+
+const char *field_name(int field)
+{
+    static const char *const name[8] = {"VOFFS", "IOFFS", "VGAIN", "IGAIN", "PHASE", "IRMSOFFS", "SQUELCH", "POFFS"};
+
+    return name[field - 1];
+}
+
+const char *register_name(int which)
+{
+    static const char *const name[REGISTERS] = {
+        "VA_RMS", "IA_RMS", "IA_PEAK", "WATT_A", "VA_A", "PFA",  "IA_CREST", "PA_POS_CNT", "PA_NEG_CNT", "MIN1", "MIN2",
+        "MIN3",   "MIN4",   "MIN5",    "MIN6",   "MAX1", "MAX2", "MAX3",     "MAX4",       "MAX5",       "MAX6",
+    };
+
+    return name[which];
+}
+
+/* The number itself, or the name of the register that has it as its word times `unit`. */
+static void put_named(int64_t number, int64_t unit)
+{
+    int which = 0;
+
+    while (which < REGISTERS && unit * table_word(which) != number)
+        which++;
+    if (which < REGISTERS && chance(40))
+        printf(" %s", register_name(which));
+    else
+        put_number(number);
+}
+
+void put_field(int field)
+{
+    if (chance(40))
+        printf(" %s", field_name(field));
+    else
+        put_number(field);
+}
+
+void put_word(int64_t word)
+{
+    put_named(word, 1);
+}
+
+void put_address(int64_t address)
+{
+    put_named(address, 3);
 }
 
 int64_t good_word(void)

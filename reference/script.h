@@ -6,6 +6,8 @@
 #include <stddef.h>
 #include <stdint.h>
 
+enum { REGISTERS = 21 };
+
 /* What kind of figures the script is about, from one start to the next. */
 enum manner {
     SMALL, /* large voltages and currents of a few units: every offset and SQUELCH can be met exactly */
@@ -30,6 +32,7 @@ struct belief {
 
 /* Values (script-values.c). Numbers are written with a space before them, in any form that stands for them. */
 void put_number(int64_t value);
+void put_end(void);
 void put_port(int port);
 int64_t good_field(enum manner manner, int field);
 int64_t bad_field_value(int field);
@@ -40,6 +43,11 @@ int64_t good_word(void);
 int64_t bad_word(void);
 int64_t register_address(int which); /* 0 to 20 */
 int64_t bad_address(void);
+const char *field_name(int field); /* 1 to 8 */
+const char *register_name(int which);
+void put_field(int field); /* these three: as a number, or by name where there is one */
+void put_word(int64_t word);
+void put_address(int64_t address);
 void put_serial(void);
 void put_bad_serial(void);
 
@@ -50,5 +58,10 @@ void put_block(struct belief *belief);
 void put_oddity(void);
 void put_silence(void);
 void put_long_line(void);
+void put_full_side(void);
+void put_last_line(void);
+
+/* Names that are none, or stand in the wrong place (script-names.c). */
+void put_odd_name(void);
 
 #endif

@@ -1,5 +1,12 @@
-"""What happened in a session at the console, from its steps and their answers; tools/picture draws it."""
+"""What happened in a session at the console, from its steps and their answers: tools/picture draws it, tools/beside prints it."""
+import os
 import re
+import subprocess
+import sys
+from itertools import groupby
+from pathlib import Path
+
+ROOT = Path(__file__).resolve().parent.parent
 
 FIELDS = ("VOFFS", "IOFFS", "VGAIN", "IGAIN", "PHASE", "IRMSOFFS", "SQUELCH", "POFFS")
 REGISTERS = {0x2B: "VA_RMS", 0x3E: "IA_RMS", 0x46: "IA_PEAK", 0x4B: "WATT_A", 0x4E: "VA_A", 0x65: "PFA", 0x8B: "IA_CREST",
@@ -8,7 +15,8 @@ REGISTERS = {0x2B: "VA_RMS", 0x3E: "IA_RMS", 0x46: "IA_PEAK", 0x4B: "WATT_A", 0x
 FIELD_NAMES = {name: k for k, name in enumerate(FIELDS, 1)}
 WORDS = {name: word for word, name in REGISTERS.items()}
 BYTES = {name: 3 * word for word, name in REGISTERS.items()}
-STEPS = ("start", "open", "write", "commit", "drop", "hold", "read", "block")
+STEPS = ("start", "open", "write", "commit", "drop", "hold", "read", "block", "cards")
+NO_PORT = ("start", "block", "cards")
 LANES = {"module": "the module", "fitter 0": "fitter, port 0", "fitter 1": "fitter, port 1",
          "reader 0": "reader, port 0", "reader 1": "reader, port 1"}
 # A colour for lines and text, and a light one for areas; cards take them in turn.
@@ -33,19 +41,24 @@ def number(word, names=()):
 
 
 class Card:
-    """A card of a session: its fields as they are written, where it was committed and from which sample on it counts."""
+    """A card of a session: the fields that are written and not told yet, where it was committed and from which sample on it counts."""
 
     def __init__(self, serial, port):
-        self.serial, self.port, self.fields = serial, port, {}
+        self.serial, self.port, self.unsaid = serial, port, {}
         self.committed = self.first = None
         self.end, self.colour, self.name = "still open", NO_CARD, serial
 
 
 class Box:
-    """Steps at one place and lane: lines of text with a colour each; a line may be a function, worked when all is known."""
+    """Steps at one place and lane: lines of text with a colour each; a line may be a function, worked when all is known. Its own colour
+    is that of the card that it is about. In a box that is full no other step is told."""
 
     def __init__(self, lane, at):
-        self.lane, self.at, self.lines, self.colour = lane, at, [], NO_CARD
+        self.lane, self.at, self.lines, self.card, self.full = lane, at, [], None, False
+
+    @property
+    def colour(self):
+        return self.card.colour if self.card else NO_CARD
 
     def text(self):
         return [(line() if callable(line) else line, colour) for line, colour in self.lines]
@@ -54,18 +67,18 @@ class Box:
 class Session:
     """What happened, from the steps and their answers."""
 
-    def __init__(self, steps, keeps):
-        self.keeps = keeps      # whether a refused start keeps the module
-        self.volts, self.amps, self.intervals, self.cards, self.boxes, self.starts = [], [], [], [], [], []
+    def __init__(self, steps):
+        self.volts, self.amps, self.intervals, self.all_cards, self.boxes, self.starts = [], [], [], [], [], []
         self.running = None     # where the interval that runs began
+        self.desks = {}
         self.begin(1, 0)
         for line, answer in steps:
             self.line, self.answer, self.ok = line, answer, answer.split(" ")[0] == "ok"
-            words = line.removesuffix("\r").split(" ")
+            words = line.split(" ")
             if answer.startswith("UNREAD"):
-                self.say("module", f"{line[:28]}: {answer}", RED)
+                self.say_no("module", line[:28])
             elif words[0] in STEPS:
-                ports = [] if words[0] in ("start", "block") else [number(words[1])]
+                ports = [] if words[0] in NO_PORT else [number(words[1])]
                 getattr(self, words[0])(*ports, *words[1 + len(ports):])
         self.begin(1, len(self.volts))
 
@@ -73,85 +86,104 @@ class Session:
         """A fresh module; an interval that runs is cut off."""
         if self.running is not None:
             self.intervals.append((self.running, at, None, self.force))
+        self.say_written()
         self.n, self.origin, self.since = n, at, len(self.boxes)
         self.waiting = self.force = self.running = None
         self.count, self.desks, self.held, self.closed = 0, {}, {}, None
 
-    def say(self, lane, line, colour=INK, box_colour=None):
-        at, lane = len(self.volts), lane if lane in LANES else "module"      # there is no other port
+    def last_box(self, lane):
+        """The lane's last box, if it stands where the session is now."""
         last = next((box for box in reversed(self.boxes[self.since:]) if box.lane == lane), None)
-        if last is None or last.at != at or (box_colour and last.colour not in (NO_CARD, box_colour)):
-            last = Box(lane, at)
-            self.boxes.append(last)
-        if box_colour:
-            last.colour = box_colour
-        last.lines.append((line, colour))
+        return last if last and last.at == len(self.volts) else None
+
+    def say(self, lane, line, colour=INK, card=None):
+        """Tells a line in the lane's box at this place; with a card, in one that is about that card."""
+        lane = lane if lane in LANES else "module"      # there is no other port
+        box = self.last_box(lane)
+        if box is None or box.full or (card and box.card not in (None, card)):
+            box = Box(lane, len(self.volts))
+            self.boxes.append(box)
+        box.card = card or box.card
+        box.lines.append((line, colour))
+        return box
+
+    def say_no(self, lane, said):
+        """The answer's word and number, and its reason on a line of its own."""
+        no, colon, why = self.answer.partition(":")
+        self.say(lane, f"{said}: {no}{colon}", RED)
+        if why:
+            self.say(lane, why.strip(), RED)
 
     def refused(self, lane, said):
         if not self.ok:
-            self.say(lane, f"{said}: {self.answer}", RED)
+            self.say_written(lane)
+            self.say_no(lane, said)
         return not self.ok
 
     def start(self, n, bucket, *slots):
         at = len(self.volts)
         if self.refused("module", "start"):
-            if not self.keeps:
-                self.begin(1, at)
             return
         self.starts.append(at)
         self.begin(number(n), at)
-        self.say("module", f"start: {number(n):,} samples an interval, bucket {number(bucket):,}")
+        self.say("module", f"start: {number(n):,} samples an interval")
+        self.say("module", f"bucket {number(bucket):,}")
         tracked = [f"{k + 1} {REGISTERS[number(word, WORDS)]}" for k, word in enumerate(slots) if number(word, WORDS)]
         self.say("module", f"tracks in slot {', '.join(tracked)}" if tracked else "no slot tracks")
 
     def open(self, port, *text):
         lane, serial = f"fitter {port}", " ".join(text)
         if not self.refused(lane, f"open {serial}"):
+            if self.last_box(lane):
+                self.last_box(lane).full = True
             self.desks[port] = card = Card(serial, port)
-            self.say(lane, f"card {serial} is begun", INK)
-            card.box = self.boxes[-1]
+            self.say(lane, f"card {serial} is begun", INK, card)
 
     def write(self, port, field, value):
         field = number(field, FIELD_NAMES)
         name = FIELDS[field - 1] if 1 <= field <= 8 else f"field {field}"
         if self.refused(f"fitter {port}", f"{name} {number(value):,}"):
             return
-        card = self.desks[port]
-        card.fields[field] = number(value)
+        self.desks[port].unsaid[field] = number(value)
 
-    def fields_said(self, card, port):
-        lane = f"fitter {port}"
-        for field, name in enumerate(FIELDS, 1):
-            value = card.fields.get(field)
-            if value:
-                self.say(lane, f"{name} {value:,}" + (f" (times {value / 2**21:.6g})" if field in (3, 4) else ""))
-        zero = sum(value == 0 for value in card.fields.values())
-        if zero:
-            self.say(lane, f"the other {zero} fields 0" if zero < 8 else "all fields 0")
+    def say_written(self, *lanes):
+        """Tells the fields that were written since they were last told, in these lanes or in all."""
+        for lane, card in ((f"fitter {port}", card) for port, card in self.desks.items()):
+            if lanes and lane not in lanes:
+                continue
+            for field, value in sorted(card.unsaid.items()):
+                if value:
+                    times = f" (times {value / 2**21:.6g})" if field in (3, 4) else ""
+                    self.say(lane, f"{FIELDS[field - 1]} {value:,}{times}", INK, card)
+            zero = [FIELDS[field - 1] for field, value in sorted(card.unsaid.items()) if value == 0]
+            if zero:
+                names = ", ".join(zero) if len(zero) < 4 else f"{len(zero)} fields"
+                self.say(lane, f"the other {len(zero)} fields 0" if len(card.unsaid) == 8 else f"{names} 0", INK, card)
+            card.unsaid = {}
 
     def commit(self, port):
         lane = f"fitter {port}"
         if self.refused(lane, "commit"):
             return
+        self.say_written(lane)
         card = self.desks.pop(port)
-        self.fields_said(card, port)
         if self.waiting:
             self.waiting.end = "replaced before any sample"
         self.waiting, card.committed, card.end = card, len(self.volts), "waits to the end"
-        self.cards.append(card)
-        self.say(lane, lambda: f"committed, {card.end}")
-        card.box = self.boxes[-1]
+        self.all_cards.append(card)
+        self.say(lane, lambda: f"committed, {card.end}", INK, card).full = True
 
     def drop(self, port):
-        if not self.refused(f"fitter {port}", "drop"):
-            card = self.desks.pop(port)
-            self.fields_said(card, port)
-            self.say(f"fitter {port}", "dropped")
+        lane = f"fitter {port}"
+        if not self.refused(lane, "drop"):
+            self.say_written(lane)
+            self.say(lane, "dropped", INK, self.desks.pop(port)).full = True
 
     def block(self, *words):
         bar = words.index("|")
         if self.refused("module", f"block of {bar}"):
             return
+        self.say_written()
         for v, i in zip(words[:bar], words[bar + 1:]):
             if self.running is None:
                 self.first_sample()
@@ -167,11 +199,17 @@ class Session:
         self.running = at = len(self.volts)
         if self.waiting:
             self.force, self.waiting = self.waiting, None
-            same = sum(card.serial == self.force.serial and card.first is not None for card in self.cards)
+            same = sum(card.serial == self.force.serial and card.first is not None for card in self.all_cards)
             self.force.first, self.force.end = at, f"counts from sample {at - self.origin + 1} on"
-            self.force.colour = COLOURS[sum(card.first is not None for card in self.cards[:-1]) % len(COLOURS)]
+            self.force.colour = COLOURS[sum(card.first is not None for card in self.all_cards[:-1]) % len(COLOURS)]
             self.force.name += f" (no. {same + 1})" if same else ""
-            self.force.box.colour = self.force.colour
+
+    def cards(self):
+        force, waiting = (card.serial if card else "-" for card in (self.force, self.waiting))
+        if self.answer != f"ok {force} {waiting}":
+            raise Wrong(f"{self.line}: answered {self.answer!r}, but by the steps before it that is {force} in force and {waiting} waiting")
+        force, waiting = (serial.replace("-", "none") for serial in (force, waiting))
+        self.say("module", f"cards: {force} in force, {waiting} waits")
 
     def hold(self, port):
         if self.refused(f"reader {port}", "hold"):
@@ -181,7 +219,7 @@ class Session:
             raise Wrong(f"{self.line}: answered {self.answer!r}, but by the steps before it the last interval is {count}"
                         f"{f' with card {card.serial}' if card else ''}")
         self.held[port] = self.closed
-        self.say(f"reader {port}", f"hold: interval {count}, card {card.serial}", card.colour[0], card.colour)
+        self.say(f"reader {port}", f"hold: interval {count}, card {card.serial}", card.colour[0], card)
 
     def read(self, port, address):
         lane = f"reader {port}"
@@ -190,26 +228,69 @@ class Session:
         if self.refused(lane, f"read {name}"):
             return
         _, _, count, card = self.held[port]
-        if not any(box.lane == lane and box.at == len(self.volts) and box.colour == card.colour for box in self.boxes):
-            self.say(lane, f"still holds interval {count}", card.colour[0], card.colour)
-        self.say(lane, f"{name} {int(self.answer.split(' ')[1]):,}", INK, card.colour)
+        box = self.last_box(lane)
+        if box is None or box.card is not card:
+            self.say(lane, f"still holds interval {count}", card.colour[0], card)
+        self.say(lane, f"{name} {int(self.answer.split(' ')[1]):,}", INK, card)
 
 
-def steps_of(script, answers):
-    """Each line that has an answer, with it; `help` may be answered by lines that begin with #."""
-    lines, answers = ([line for line in text.split("\n") if line and not line.startswith("#")] for text in (script, answers))
-    if len(lines) != len(answers):
-        lines = [line for line in lines if line != "help"]
-    if len(lines) != len(answers):
-        raise Wrong(f"{len(lines)} steps and {len(answers)} answers")
-    return list(zip(lines, answers))
+def pairs_of(script, answers):
+    """Each line of the script with the lines of its answer: of `help` those that begin with #, of a line with no answer none."""
+    lines = [line.removesuffix("\r") for line in script.removesuffix("\n").split("\n")]
+    asked, given = [line for line in lines if line and not line.startswith("#")], answers.split("\n")[:-1]
+    wrong = Wrong(f"{len(asked)} steps and {len(given)} lines of answers, which do not fit each other")
+    asked = [(helps, list(some)) for helps, some in groupby(asked, lambda line: line == "help")]
+    given = [(helps, list(some)) for helps, some in groupby(given, lambda said: said.startswith("#"))]
+    if [helps for helps, _ in asked] != [helps for helps, _ in given]:
+        raise wrong
+    told = []
+    for (helps, some), (_, said) in zip(asked, given):
+        each, rest = divmod(len(said), len(some))
+        if rest or not each or (each > 1 and not helps):
+            raise wrong
+        told += [said[k:k + each] for k in range(0, len(said), each)]
+    told = iter(told)
+    return [(line, next(told) if line and not line.startswith("#") else []) for line in lines]
+
+
+def steps_of(pairs):
+    """Each step with its answer; `help` is left out."""
+    return [(line, said[0]) for line, said in pairs if said and line != "help"]
+
+
+def add_arguments(parser):
+    """A script, and where its answers come from."""
+    parser.add_argument("script", type=Path, help="steps for the console, a line each")
+    parser.add_argument("--answers", type=Path, metavar="FILE", help="take the answers from FILE")
+    parser.add_argument("--console", nargs="+", metavar="PROGRAM", default=[ROOT / "run", "console"],
+                        help="take the answers from PROGRAM (./run console)")
+
+
+def pairs_asked(arguments):
+    """The script's lines with their answers, as the arguments ask."""
+    if arguments.answers:
+        answers = arguments.answers.read_bytes()
+    else:
+        with arguments.script.open("rb") as given:
+            answers = subprocess.run(arguments.console, stdin=given, stdout=subprocess.PIPE, check=True).stdout
+    return pairs_of(arguments.script.read_bytes().decode("latin-1"), answers.decode("latin-1"))
+
+
+def written(tool, text):
+    """Writes to standard output; 0, or 2 where that cannot be."""
+    try:
+        sys.stdout.buffer.write(text.encode())
+        sys.stdout.buffer.flush()
+        return 0
+    except OSError as error:
+        print(f"{tool}: standard output: {error.strerror}", file=sys.stderr)
+        os.dup2(os.open(os.devnull, os.O_WRONLY), sys.stdout.fileno())      # for what is left in the buffer
+        return 2
 
 
 def session_of(steps):
-    """The session that fits the answers: a start that is refused in its course leaves a fresh module, or keeps it, by the console's age."""
-    for keeps in (False, True):
-        try:
-            return Session(steps, keeps)
-        except (Wrong, LookupError, AttributeError) as error:
-            said = said if keeps else error
-    raise said if isinstance(said, Wrong) else Wrong(f"the answers do not fit the steps ({said!r})")
+    """The session, where the answers fit the steps."""
+    try:
+        return Session(steps)
+    except (LookupError, AttributeError, TypeError, ValueError) as error:
+        raise Wrong(f"the answers do not fit the steps ({error!r})") from error

@@ -22,9 +22,9 @@ use Rattle.meter.specs.Core.{core, meterOf, samplesOf}
 use Rattle.meter.specs.Blocks.{waitOf, nextCard, answered, blockOf as meterBlock}
 use Rattle.meter.proofs.Sound.{Sound as SoundMeter}
 use Rattle.meter.proofs.Agreement.{block-feeds}
-use Rattle.port.specs.declared.desks.Desk.{Desk}
+use Rattle.desk.specs.declared.Desk.{Desk}
 use Rattle.port.specs.declared.holds.Held.{Held}
-use Rattle.port.specs.Desks.{openWith, writeField, shutDesk, opening, writing, finished, discarded, dropping}
+use Rattle.desk.specs.Desks.{openWith, writeField, shutDesk, opening, writing, finished, discarded, dropping}
 use Rattle.port.specs.Holds.{register, copied}
 use Rattle.port.specs.Reading.{look}
 use Rattle.port.specs.declared.holds.Reading.the-variants.{Refused as NotRead}

@@ -12,8 +12,10 @@ use Rattle.aberzhan.specs.declared.Module.{Module}
 use Rattle.aberzhan.specs.declared.Stepped.{Stepped}
 use Rattle.aberzhan.specs.declared.Holding.{Holding}
 use Rattle.aberzhan.specs.declared.Looked.{Looked}
+use Rattle.aberzhan.specs.declared.Cards.{Cards}
 use Rattle.aberzhan.specs.Ports.{aberzhan}
 use Rattle.aberzhan.specs.Module.{startOf}
+use Rattle.aberzhan.specs.Cards.{cardsOf}
 use Rattle.aberzhan.specs.Calls.{stateOf, Call, callOpen, callWrite, callCommit, callDrop, callHold, callRead, callBlock, stepOf, callOf, fromStep, fromHold, fromRead, returned, program}
 use Rattle.aberzhan.proofs.Module.start.Kinds as starts-k
 use Rattle.aberzhan.proofs.Module.start.Reads as starts
@@ -31,6 +33,8 @@ use Rattle.aberzhan.proofs.Module.read.Kinds as reads-k
 use Rattle.aberzhan.proofs.Module.read.Reads as reads
 use Rattle.aberzhan.proofs.Module.block.Kinds as blocks-k
 use Rattle.aberzhan.proofs.Module.block.Reads as blocks
+use Rattle.aberzhan.proofs.Module.cards.Kinds as cards-k
+use Rattle.aberzhan.proofs.Module.cards.Reads as cards
 
 -- ---- the contracts
 
@@ -39,6 +43,10 @@ abbrev pub Starts : ℤ → ℤ → List WordAddr → Stepped → Type 0
 Starts n b track r =
     (κs : Lfts 0) × (a : Dens κs starts-k.ps) × Allowed 0 starts-k.ps starts-k.r starts.Post κs a r
     × (a .0 ≡ n) × (a .1 .0 ≡ b) × (a .1 .1 .0 ≡ track)
+
+-- `Module::cards` of the module m may return r
+abbrev pub Shows : Module → Cards → Type 0
+Shows m r = (κs : Lfts 0) × (a : Dens κs cards-k.ps) × Allowed 0 cards-k.ps cards-k.r cards.Post κs a r × (a .0 ≡ m)
 
 -- the call's method may return the reply and the module o; its first parameter is the module m, and the others are the call's
 abbrev pub Allows : Call → Module → Reply aberzhan × Module → Type 0
@@ -72,6 +80,9 @@ methods = record { Kept = Module; stateOf = stateOf; Call = Call; stepOf = stepO
 
 pub start-is : (n b : ℤ) (track : List WordAddr) (r : Stepped) → Starts n b track r → r ≡ startOf n b track
 start-is n b track r (κs, a, h, e, f, g) = rw (e, f, g) at (h .allowed)
+
+pub shown-is : (m : Module) (r : Cards) → Shows m r → r ≡ cardsOf m
+shown-is m r (κs, a, h, e) = rw e at (h .allowed)
 
 pub allowed-is : (k : Call) (m : Module) (o : Reply aberzhan × Module) → Allows k m o → o ≡ returned k m
 allowed-is (callOpen p text) m o (κs, a, r, h, e, f, g, q) = q ∙ ap fromStep (rw (e, f, g) at (h .allowed))

@@ -23,13 +23,13 @@ use Rattle.address.specs.Slots.{off, everySlot}
 use Rattle.sample.specs.Inside.{Phased}
 use Rattle.meter.proofs.Sound.{Sound as SoundMeter}
 use Rattle.meter.specs.Core.{core, samplesOf, keptOf}
-use Rattle.meter.specs.Starting.{numbersOk, freshOf, notStarted, startOf as meterStart}
+use Rattle.starting.specs.Starting.{numbersOk, freshOf, notStarted, startOf as meterStart}
 use Rattle.steps.specs.declared.Answer.the-variants.{Done}
 use Rattle.meter.proofs.Agreement.{feeds-sound, wait-sound}
-use Rattle.meter.proofs.Starts.{numbers-in}
-use Rattle.port.specs.declared.desks.Desk.{Desk}
+use Rattle.starting.proofs.Starts.{numbers-in}
+use Rattle.desk.specs.declared.Desk.{Desk}
 use Rattle.aberzhan.specs.declared.Module.{Module}
-use Rattle.port.specs.Desks.{Edit, openWith, writeField, shutDesk, emptyCard, withField, opening, writing, allWritten, cardOn, finished}
+use Rattle.desk.specs.Desks.{Edit, openWith, writeField, shutDesk, emptyCard, withField, opening, writing, allWritten, cardOn, finished}
 use Rattle.aberzhan.specs.Ports.{aberzhan}
 use Rattle.aberzhan.specs.Module.{freshModule, startOf}
 

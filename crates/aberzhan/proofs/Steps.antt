@@ -9,13 +9,14 @@ use Rattle.steps.specs.Answers.{OrRefusal, refused, accepted}
 use Rattle.steps.specs.Port.{Port, port0, port1}
 use Rattle.card.specs.declared.Card.{Card}
 use Rattle.address.specs.declared.ByteAddr.{ByteAddr}
-use Rattle.port.specs.declared.desks.Desk.{Desk}
+use Rattle.desk.specs.declared.Desk.{Desk}
 use Rattle.port.specs.declared.holds.Held.{Held}
 use Rattle.port.specs.declared.holds.Reading.the-variants.{Refused as NotRead}
-use Rattle.port.specs.Desks.{opening, writing, finished, dropping}
+use Rattle.desk.specs.Desks.{opening, writing, finished, dropping}
 use Rattle.port.specs.Holds.{copied}
 use Rattle.port.specs.Reading.{look}
-use Rattle.port.specs.Answers.{desked, finishing, copying, looked}
+use Rattle.desk.specs.Answers.{desked, finishing}
+use Rattle.port.specs.Answers.{copying, looked}
 use Rattle.aberzhan.specs.declared.Module.{Module}
 use Rattle.aberzhan.specs.declared.Looked.{Looked}
 use Rattle.aberzhan.specs.Module.{deskOf, heldOf, withDesk, portAt, atPort, refusal, atDesk, committing, notHeld, holding, openOf, writeOf, commitOf, dropOf, holdOf, readOf}

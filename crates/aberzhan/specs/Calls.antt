@@ -13,7 +13,7 @@ use Rattle.address.specs.declared.ByteAddr.{ByteAddr}
 use Rattle.meter.specs.Core.{meterOf, keptOf}
 use Rattle.port.specs.declared.holds.Reading.{Reading}
 use Rattle.port.specs.declared.holds.Reading.the-variants.{Value as ReadOut, Refused as NotRead}
-use Rattle.port.specs.Desks.{openWith, writeField}
+use Rattle.desk.specs.Desks.{openWith, writeField}
 use Rattle.port.specs.Holds.{interval, register}
 use Rattle.aberzhan.specs.declared.Module.{Module}
 use Rattle.aberzhan.specs.declared.Stepped.{Stepped}

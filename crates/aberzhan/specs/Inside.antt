@@ -6,9 +6,9 @@ use Rattle.steps.specs.Port.{Port, port0, port1}
 use Rattle.steps.specs.declared.Answer.{Answer}
 use Rattle.steps.specs.declared.Answer.the-variants.{Done, Refused}
 use Rattle.meter.specs.Blocks.{waitOf}
-use Rattle.port.specs.declared.desks.Desk.{Desk}
-use Rattle.port.specs.declared.desks.Desked.{Desked}
-use Rattle.port.specs.declared.desks.Finished.{Finished}
+use Rattle.desk.specs.declared.Desk.{Desk}
+use Rattle.desk.specs.declared.Desked.{Desked}
+use Rattle.desk.specs.declared.Finished.{Finished}
 use Rattle.port.specs.declared.holds.Held.{Held}
 use Rattle.port.specs.declared.holds.Copied.{Copied}
 use Rattle.aberzhan.specs.declared.Module.{Module}

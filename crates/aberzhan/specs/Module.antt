@@ -12,11 +12,11 @@ use Rattle.address.specs.declared.WordAddr.{WordAddr}
 use Rattle.address.specs.declared.ByteAddr.{ByteAddr}
 use Rattle.meter.specs.declared.Meter.{Meter}
 use Rattle.meter.specs.Blocks.{waitOf, blockOf as meterBlock}
-use Rattle.meter.specs.Starting.{startOf as meterStart}
-use Rattle.port.specs.declared.desks.Desk.{Desk}
+use Rattle.starting.specs.Starting.{startOf as meterStart}
+use Rattle.desk.specs.declared.Desk.{Desk}
 use Rattle.port.specs.declared.holds.Held.{Held}
 use Rattle.port.specs.declared.holds.Reading.the-variants.{Refused as NotRead}
-use Rattle.port.specs.Desks.{shutDesk, opening, writing, finished, dropping}
+use Rattle.desk.specs.Desks.{shutDesk, opening, writing, finished, dropping}
 use Rattle.port.specs.Holds.{nothingHeld, copied}
 use Rattle.port.specs.Reading.{look}
 use Rattle.port.specs.Answers.{looked}

@@ -1,13 +1,15 @@
 // The module: two ports that stage cards and hold readings, before the meter.
 ghost use mathlib.Core.Path.{_≡_};
 ghost use Rattle.aberzhan.specs.Module.{withMeter, refusal, openOf, writeOf, commitOf, dropOf, notHeld, holdOf, readOf, blockOf, freshModule, startOf};
+ghost use Rattle.aberzhan.specs.Cards.{serialIf, cardsOf};
 ghost use Rattle.aberzhan.specs.Inside.{isPort, deskAt, holdAt, deskPut, holdPut, deskDid, committed, held};
 use address::ByteAddr;
 use address::WordAddr;
+use card::Card;
+use desk::Desk;
+use desk::Desked;
+use desk::Finished;
 use meter::Meter;
-use port::desks::Desk;
-use port::desks::Desked;
-use port::desks::Finished;
 use port::holds::Copied;
 use port::holds::Held;
 use port::holds::Reading;
@@ -43,6 +45,18 @@ pub struct Looked {
     pub after: Module,
 }
 
+// The serials of the card in force and of the card that waits; none where there is no such card.
+pub struct Cards {
+    pub force: Serial,
+    pub waiting: Serial,
+}
+
+fn serial_if(there: bool, c: Card) -> Serial
+    ensures { λ r. ⌜ r ≡ serialIf there c ⌝ }
+{
+    if there { c.serial } else { Serial::none() }
+}
+
 // Ports are 0 and 1.
 fn is_port(port: i64) -> bool
     ensures { λ r. ⌜ r ≡ isPort port ⌝ }
@@ -70,7 +84,7 @@ impl Module {
     pub fn start(n: i64, b: i64, track: [WordAddr; 6]) -> Stepped
         ensures { λ r. ⌜ r ≡ startOf n b track ⌝ }
     {
-        let r = meter::start(n, b, track);
+        let r = starting::start(n, b, track);
         let answer = r.answer;
         let after = Module::fresh(r.after);
         Stepped { answer, after }
@@ -283,5 +297,15 @@ impl Module {
             answer: said,
             after,
         }
+    }
+
+    // Which cards it has.
+    pub fn cards(self) -> Cards
+        ensures { λ r. ⌜ r ≡ cardsOf self ⌝ }
+    {
+        let m = self.meter;
+        let force = serial_if(m.forced, m.force);
+        let waiting = serial_if(m.waits, m.waiting);
+        Cards { force, waiting }
     }
 }

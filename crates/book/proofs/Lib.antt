@@ -1,6 +1,3 @@
--- Laws of the book's definitions, and the theorems of lookup.
+-- Laws of the book's definitions.
 pub mod Sections
-pub mod Answers
-pub mod Promises
 pub mod Decided
-pub mod Stands

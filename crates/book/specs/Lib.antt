@@ -1,5 +1,3 @@
--- The card book, from document 01: when it is well formed, and lookup.
+-- The card book, from document 01: when it is well formed; and the answers of its parts.
 pub mod Book
 pub mod Answers
-pub mod Lookup
-pub mod Promises

@@ -5,8 +5,6 @@ use Rattle.card.proofs.field_in_range.Kinds as field-in-range-k
 use Rattle.card.proofs.field_in_range.Reads as field-in-range
 use Rattle.card.proofs.values_fit.Kinds as values-fit-k
 use Rattle.card.proofs.values_fit.Reads as values-fit
-use Rattle.card.proofs.card_bytes.Kinds as card-bytes-k
-use Rattle.card.proofs.card_bytes.Reads as card-bytes
 use Rattle.card.proofs.Card.of.Kinds as card-of-k
 use Rattle.card.proofs.Card.of.Reads as card-of
 use Rattle.card.proofs.is_card.Kinds as is-card-k
@@ -17,9 +15,6 @@ field-in-range-decided = record { always = λ κs a. tt; determined = λ κs a p
 
 pub values-fit-decided : Decided 0 values-fit-k.ps values-fit-k.r values-fit.Pre values-fit.Post
 values-fit-decided = record { always = λ κs a. tt; determined = λ κs a p z z′ ws ws′ q q′. (q ∙ sym q′, refl) }
-
-pub card-bytes-decided : Decided 0 card-bytes-k.ps card-bytes-k.r card-bytes.Pre card-bytes.Post
-card-bytes-decided = record { always = λ κs a. tt; determined = λ κs a p z z′ ws ws′ q q′. (q ∙ sym q′, refl) }
 
 pub card-of-decided : Decided 1 card-of-k.ps card-of-k.r card-of.Pre card-of.Post
 card-of-decided = record { always = λ κs a. tt; determined = λ κs a p z z′ ws ws′ q q′. (q ∙ sym q′, refl) }

@@ -1,4 +1,5 @@
--- A card's 37 bytes, from document 01, "A probe's card": the serial's 13, then the eight fields in order, three bytes each, low byte first, two's complement for fields 1 and 2.
+-- A card's 37 bytes, from document 01, "A probe's card": the serial's 13, then the eight fields in order, three bytes each, low byte first,
+-- two's complement for fields 1 and 2.
 use Prim.Native.Nat.{ℕ, _+_, _-_, _*_, _/_, _%_}
 use mathlib.Core.Bool.{Bool, cond, _&&_}
 use mathlib.Core.List.{List, [], _∷_, _++_}

@@ -17,11 +17,11 @@ use Rattle.serial.specs.Serials.{isSerial, serialOf, serialBytes}
 use Rattle.card.specs.Fields.{valuesFit}
 use Rattle.card.specs.Cards.{cardBytes}
 use Rattle.serial.proofs.Serials.{length-bytes}
-use Rattle.card.proofs.RoundTrip.{length-card, twelve-places}
+use Rattle.cardbytes.proofs.RoundTrip.{length-card, twelve-places}
 use Rattle.section.specs.Sections.{has}
 use Rattle.section.specs.declared.Section.{Section}
 use Rattle.book.specs.Book.{cards, withdrawn, wellFormed, Sized}
-use Rattle.book.proofs.Answers.{ask-none, ask-within}
+use Rattle.lookup.proofs.Answers.{ask-none, ask-within}
 use Rattle.book.proofs.Sections.{formed-sized}
 use Rattle.change.specs.Answers.{changedAnswer}
 use Rattle.change.specs.Change.{bookIn, Takes, roomFor, Ready, addAnswer, withdrawAnswer}

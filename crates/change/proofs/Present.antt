@@ -11,7 +11,7 @@ use Rattle.section.specs.Sections.{has}
 use Rattle.section.specs.declared.Section.{Section}
 use Rattle.book.specs.Book.{cards, withdrawn, wellFormed}
 use Rattle.book.specs.Answers.{Answer, refused}
-use Rattle.book.proofs.Stands.{exactly-stands}
+use Rattle.lookup.proofs.Stands.{exactly-stands}
 use Rattle.change.specs.Change.{bookIn, roomFor, addAnswer, withdrawAnswer}
 use Rattle.change.specs.Promises.{AddPresent, WithdrawPresent}
 

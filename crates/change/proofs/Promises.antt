@@ -16,18 +16,18 @@ use Rattle.serial.specs.Serials.{isSerial, serialOf, serialBytes}
 use Rattle.card.specs.Fields.{fitsField, valuesFit}
 use Rattle.card.specs.Cards.{cardBytes, cardOf}
 use Rattle.serial.proofs.Serials.{length-bytes, bytes-hold}
-use Rattle.card.proofs.RoundTrip.{length-card, twelve-places, new-card, card-back}
+use Rattle.cardbytes.proofs.RoundTrip.{length-card, twelve-places, new-card, card-back}
 use Rattle.section.specs.declared.Kind.the-variants.{Cards, Serials}
 use Rattle.section.specs.Sections.{placeOf, endOf, entryAt, serialAt, entryOk, sectionOk, findIn, has}
 use Rattle.book.specs.Book.{cards, withdrawn, sized, Sized, wellFormed}
 use Rattle.book.specs.Answers.{Answer, accepted, ask}
-use Rattle.book.specs.Lookup.{seekOf, lookupOf, cardPart}
+use Rattle.lookup.specs.Lookup.{seekOf, lookupOf, cardPart}
 use Rattle.change.specs.Change.{withEntry, roomFor, bufferAfter, addAnswer, added, withdrawAnswer, afterWithdraw}
 use Rattle.change.specs.Promises.{CardAdded, SerialWithdrawn, AddKeeps, WithdrawKeeps}
 use Rattle.section.specs.declared.Section.{Section}
 use Rattle.section.proofs.Sections.{serial-first}
 use Rattle.book.proofs.Sections.{sized-has, cards-lie, withdrawn-lie}
-use Rattle.book.proofs.Answers.{placed}
+use Rattle.lookup.proofs.Answers.{placed}
 use Rattle.change.proofs.Answers.{Room, Adds, adds, Withdraws, withdraws}
 use Rattle.change.proofs.Entry.{Grown, grown}
 use Rattle.change.proofs.Grown as G

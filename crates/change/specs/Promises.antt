@@ -12,8 +12,8 @@ use Rattle.section.specs.Sections.{endOf, entryAt, has}
 use Rattle.section.specs.declared.Section.{Section}
 use Rattle.book.specs.Book.{cards, withdrawn, wellFormed}
 use Rattle.book.specs.Answers.{accepted, refused}
-use Rattle.book.specs.Promises.{StandsIn, Exactly}
-use Rattle.book.specs.Lookup.{lookupOf, cardPart}
+use Rattle.lookup.specs.Promises.{StandsIn, Exactly}
+use Rattle.lookup.specs.Lookup.{lookupOf, cardPart}
 use Rattle.change.specs.Change.{bookIn, addAnswer, added, withdrawAnswer, afterWithdraw}
 
 -- every serial but t is answered in new as it was in old, its place and its card's bytes too

@@ -122,7 +122,7 @@ pub fn add(buffer: &mut [u8], used: usize, text: &[u8], values: [i64; 8]) -> Cha
         return Changed::Malformed;
     }
     let s = book::cards(&buffer[0..used]);
-    let x = card::card_bytes(serial::Serial::of(text), values);
+    let x = cardbytes::card_bytes(serial::Serial::of(text), values);
     enter(buffer, used, s, 1024, text, &x)
 }
 

@@ -1,23 +1,43 @@
--- Answers worked out by the definition.
+-- Lines and answers worked out by the definition.
 use mathlib.Core.Path.{_≡_, refl}
-use mathlib.Core.List.{[], _∷_}
+use mathlib.Core.List.{[], _∷_, _++_}
 use lib.IntN.{negsuc}
 use Rattle.decimal.specs.Decimals.{digits, decimal, signedDecimal}
+use Rattle.serial.specs.Ascii.{ascii}
+use Rattle.serial.specs.declared.Serial.{Serial}
 use Rattle.serial.specs.Serials.{noSerial}
+use Rattle.refusal.specs.Words.{table, wordsOf}
+use Rattle.console.specs.declared.unread.Why.the-variants as why
 use Rattle.console.specs.declared.turns.Said.the-variants as said
-use Rattle.console.specs.Answers.{okWord, refusedWord, numberLine, digitsText, heldLine, saidText}
+use Rattle.console.specs.Texts.{withoutReturn}
+use Rattle.console.specs.Unread.{whyWords}
+use Rattle.console.specs.Answers.{end, unreadLine, refusedLine, valueLine, digitsText, cardText, heldLine, cardsLine, saidText}
 
--- REFUSED 16
-refused : saidText (said.Refused 16) 0 noSerial ≡ 82 ∷ 69 ∷ 70 ∷ 85 ∷ 83 ∷ 69 ∷ 68 ∷ 32 ∷ 49 ∷ 54 ∷ 10 ∷ []
-unfolding saidText numberLine refusedWord signedDecimal decimal digits
+refused : saidText (said.Refused 16) 0 noSerial noSerial ≡ ascii "REFUSED 16: no register has this byte address" ++ end
+unfolding saidText refusedLine decimal digits ascii wordsOf table
 refused = refl
 
--- ok -205
-value : saidText (said.Value (negsuc 204)) 0 noSerial ≡ 111 ∷ 107 ∷ 32 ∷ 45 ∷ 50 ∷ 48 ∷ 53 ∷ 10 ∷ []
-unfolding saidText numberLine okWord signedDecimal decimal digits
+unread : saidText (said.Unread why.NotField) 0 noSerial noSerial ≡ ascii "UNREAD: neither a 64-bit number nor a field's name" ++ end
+unfolding saidText unreadLine whyWords ascii
+unread = refl
+
+value : saidText (said.Value (negsuc 204)) 0 noSerial noSerial ≡ ascii "ok -205" ++ end
+unfolding saidText valueLine signedDecimal decimal digits ascii
 value = refl
 
--- ok 1 0417
-held : saidText said.Held 1 (record { len = 4; digits = 48 ∷ 52 ∷ 49 ∷ 55 ∷ 0 ∷ 0 ∷ 0 ∷ 0 ∷ 0 ∷ 0 ∷ 0 ∷ 0 ∷ [] }) ≡ 111 ∷ 107 ∷ 32 ∷ 49 ∷ 32 ∷ 48 ∷ 52 ∷ 49 ∷ 55 ∷ 10 ∷ []
-unfolding saidText heldLine okWord digitsText decimal digits
+abbrev label : Serial
+label = record { len = 4; digits = 48 ∷ 52 ∷ 49 ∷ 55 ∷ 0 ∷ 0 ∷ 0 ∷ 0 ∷ 0 ∷ 0 ∷ 0 ∷ 0 ∷ [] }
+
+held : saidText said.Held 1 label noSerial ≡ ascii "ok 1 0417" ++ end
+unfolding saidText heldLine digitsText decimal digits ascii
 held = refl
+
+-- nothing is in force yet, a card waits
+cards : saidText said.Cards 0 noSerial label ≡ ascii "ok - 0417" ++ end
+unfolding saidText cardsLine cardText digitsText ascii
+cards = refl
+
+-- a carriage return belongs to the line's end only right before it
+returned : withoutReturn (104 ∷ 13 ∷ 101 ∷ 13 ∷ 13 ∷ []) ≡ 104 ∷ 13 ∷ 101 ∷ 13 ∷ []
+unfolding withoutReturn
+returned = refl

@@ -3,7 +3,9 @@ pub mod TextLaws
 pub mod NumberLaws
 pub mod ItemLaws
 pub mod WordLaws
+pub mod UnreadLaws
 pub mod TurnLaws
-pub mod LineLaws
+pub mod AnswerLaws
 pub mod SessionLaws
+pub mod Unchanged
 pub mod Examples

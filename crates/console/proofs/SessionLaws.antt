@@ -9,38 +9,54 @@ use native.Mathlib.Omega.{arith}
 use lib.Dec.{T, eqb, leb, leb→le, nleb→lt}
 use lib.ListN.{length, getD, take, drop, length-take, length-drop, length-append}
 use lib.Seq.{take-all, take-append-le, take-append-add, take-take, length-take-le, drop-cons, drop-drop, getD-drop}
-use borrow.Author.Tests.{eq-eqb, ne-eqb}
 use Rattle.serial.specs.Places.{put}
 use Rattle.serial.proofs.Places.{front-put}
 use Rattle.aberzhan.specs.declared.Module.{Module}
-use Rattle.console.specs.Texts.{lengthTo}
+use Rattle.console.specs.Texts.{lengthTo, withoutReturn}
 use Rattle.console.specs.Answers.{answerText}
 use Rattle.console.specs.Session.{Talk, silent, lineTurn, ended, keeping, talked, begin, answersTo, OneTalk}
 
--- ---- the k bytes that are kept of a line
-pub empty : (line : List ℕ) (k : ℕ) → k ≡ 0 → silent (take k line) ≡ true
+-- ---- a line that has no answer
+pub silent-empty : (line : List ℕ) → length line ≡ 0 → true ≡ silent line
 unfolding silent
-empty line k e = rw e
+silent-empty [] e = refl
+silent-empty (c ∷ cs) e = absurd (omega arith)
 
-pub comment : (line : List ℕ) (k : ℕ) → k ≤ length line → (k ≡ 0 → ⊥) → getD line 0 0 ≡ 35 → silent (take k line) ≡ true
+pub silent-other : (line : List ℕ) → (length line ≡ 0 → ⊥) → eqb (getD line 0 0) 35 ≡ silent line
 unfolding silent
-comment line zero l h e = absurd (h refl)
-comment [] (suc k) l h e = absurd (not-suc-le-zero l)
-comment (c ∷ cs) (suc k) l h e = eq-eqb c 35 e
-
-pub other : (line : List ℕ) (k : ℕ) → k ≤ length line → (k ≡ 0 → ⊥) → (getD line 0 0 ≡ 35 → ⊥) → silent (take k line) ≡ false
-unfolding silent
-other line zero l h e = absurd (h refl)
-other [] (suc k) l h e = absurd (not-suc-le-zero l)
-other (c ∷ cs) (suc k) l h e = ne-eqb c 35 e
+silent-other [] h = absurd (h refl)
+silent-other (c ∷ cs) h = refl
 
 -- ---- a line's end
-pub ends-silent : (t : Talk) → silent (t .kept) ≡ true → ended t ≡ record { state = t .state; kept = []; said = t .said }
+-- what is cut off a line that ends with a carriage return
+pub cut-return : (line : List ℕ) → take (length (withoutReturn line)) line ≡ withoutReturn line
+unfolding withoutReturn
+cut-return line = by (eqb (getD line (length line - 1) 0) 13)
+  where
+    by : (x : Bool) → take (length (cond x (take (length line - 1) line) line)) line ≡ cond x (take (length line - 1) line) line
+    by true = ap (λ (n : ℕ). take n line) (length-take-le (length line - 1) line (omega arith))
+    by false = take-all (length line) line (omega arith)
+
+pub return-within : (line : List ℕ) → length (withoutReturn line) ≤ length line
+unfolding withoutReturn
+return-within line = by (eqb (getD line (length line - 1) 0) 13)
+  where
+    by : (x : Bool) → length (cond x (take (length line - 1) line) line) ≤ length line
+    by true = simp length-take (omega arith)
+    by false = omega arith
+
+-- the line among the k bytes that are kept
+pub line-kept : (line : List ℕ) (k n : ℕ) → n ≡ length (withoutReturn (take k line)) → take n line ≡ withoutReturn (take k line)
+line-kept line k n e =
+    let l : n ≤ k = omega (arith, e, return-within (take k line), simp length-take at (return-within (take k line)), length-take k line) in
+    sym (take-take n k line l) ∙ ap (λ (j : ℕ). take j (take k line)) e ∙ cut-return (take k line)
+
+pub ends-silent : (t : Talk) → silent (withoutReturn (t .kept)) ≡ true → ended t ≡ record { state = t .state; kept = []; said = t .said }
 unfolding ended
 ends-silent t e = rw e refl
 
-pub ends-answered : (t : Talk) → silent (t .kept) ≡ false →
-    ended t ≡ record { state = lineTurn (t .state) (t .kept) .after; kept = []; said = t .said ++ answerText (lineTurn (t .state) (t .kept)) }
+pub ends-answered : (t : Talk) → silent (withoutReturn (t .kept)) ≡ false →
+    ended t ≡ record { state = lineTurn (t .state) (withoutReturn (t .kept)) .after; kept = []; said = t .said ++ answerText (lineTurn (t .state) (withoutReturn (t .kept))) }
 unfolding ended
 ends-answered t e = rw e refl
 
@@ -54,17 +70,17 @@ keep-again m xs ys = go (leb (length xs) m) (leb→le (length xs) m) (nleb→lt 
         take-append-le m (take m xs) ys (simp length-take (omega (arith, g tt))) ∙ take-take m m xs (omega arith)
         ∙ sym (take-append-le m xs ys (omega (arith, g tt)))
 
-keeping-none : (t : Talk) → length (t .kept) ≤ 131072 → keeping t [] ≡ t
+keeping-none : (t : Talk) → length (t .kept) ≤ 131073 → keeping t [] ≡ t
 unfolding keeping
-keeping-none t l = ap (λ (k : List ℕ). record { state = t .state; kept = k; said = t .said }) (ap (take 131072) (append-nil (t .kept)) ∙ take-all 131072 (t .kept) l)
+keeping-none t l = ap (λ (k : List ℕ). record { state = t .state; kept = k; said = t .said }) (ap (take 131073) (append-nil (t .kept)) ∙ take-all 131073 (t .kept) l)
 
 keeping-more : (t : Talk) (c : ℕ) (cs : List ℕ) → keeping (keeping t (c ∷ [])) cs ≡ keeping t (c ∷ cs)
 unfolding keeping
 keeping-more t c cs =
     ap (λ (k : List ℕ). record { state = t .state; kept = k; said = t .said })
-    (keep-again 131072 (t .kept ++ (c ∷ [])) cs ∙ ap (take 131072) (append-assoc (t .kept) (c ∷ []) cs))
+    (keep-again 131073 (t .kept ++ (c ∷ [])) cs ∙ ap (take 131073) (append-assoc (t .kept) (c ∷ []) cs))
 
-kept-short : (t : Talk) (bytes : List ℕ) → length (keeping t bytes .kept) ≤ 131072
+kept-short : (t : Talk) (bytes : List ℕ) → length (keeping t bytes .kept) ≤ 131073
 unfolding keeping
 kept-short t bytes = simp length-take (omega arith)
 
@@ -77,7 +93,7 @@ no-feed c cs n h = go (eqb c 10) h
     go true l = absurd (not-suc-le-zero l)
     go false l = (refl, omega arith)
 
-pub talk-keeps : (n : ℕ) (cs : List ℕ) (t : Talk) → length (t .kept) ≤ 131072 → n ≤ lengthTo 10 cs → talked t cs ≡ talked (keeping t (take n cs)) (drop n cs)
+pub talk-keeps : (n : ℕ) (cs : List ℕ) (t : Talk) → length (t .kept) ≤ 131073 → n ≤ lengthTo 10 cs → talked t cs ≡ talked (keeping t (take n cs)) (drop n cs)
 unfolding talked
 talk-keeps zero cs t l h = ap (λ (u : Talk). talked u cs) (sym (keeping-none t l))
 talk-keeps (suc n) [] t l h = ap (λ (u : Talk). talked u []) (sym (keeping-none t l))
@@ -120,7 +136,9 @@ ended-cases false p t m answer = ap (λ (l : List ℕ). record { state = m; kept
 
 ended-behind : (p : List ℕ) (t : Talk) → ended (behind p t) ≡ behind p (ended t)
 unfolding ended
-ended-behind p t = ended-cases (silent (t .kept)) p t (lineTurn (t .state) (t .kept) .after) (answerText (lineTurn (t .state) (t .kept)))
+ended-behind p t =
+    let line = withoutReturn (t .kept) in
+    ended-cases (silent line) p t (lineTurn (t .state) line .after) (answerText (lineTurn (t .state) line))
 
 byte-behind : (x : Bool) (p : List ℕ) (t : Talk) (c : ℕ) → cond x (ended (behind p t)) (keeping (behind p t) (c ∷ [])) ≡ behind p (cond x (ended t) (keeping t (c ∷ [])))
 unfolding keeping
@@ -163,7 +181,7 @@ keeps-some line part kept l h =
 
 -- a line's bytes up to the next line feed
 module _ (part : List ℕ) (at r : ℕ) (feed : r ≡ lengthTo 10 (drop at part)) where
-  pub turn-keeps : (t : Talk) → length (t .kept) ≤ 131072 → talked t (drop at part) ≡ talked (keeping t (take r (drop at part))) (drop (at + r) part)
+  pub turn-keeps : (t : Talk) → length (t .kept) ≤ 131073 → talked t (drop at part) ≡ talked (keeping t (take r (drop at part))) (drop (at + r) part)
   turn-keeps t l =
       talk-keeps r (drop at part) t l (omega (arith, feed)) ∙ ap (talked (keeping t (take r (drop at part)))) (drop-drop r at part)
 
@@ -177,11 +195,11 @@ module _ (part : List ℕ) (at r : ℕ) (feed : r ≡ lengthTo 10 (drop at part)
   pub turn-answers : (t u : Talk) → u ≡ ended t → at + r < length part → talked u (drop (at + r + 1) part) ≡ talked t (drop (at + r) part)
   turn-answers t u e h = ap (λ (w : Talk). talked w (drop (at + r + 1) part)) e ∙ sym (turn-ends t h)
 
-pub kept-talk : (m : Module) (said line part now-kept : List ℕ) (at r kept : ℕ) → length line ≡ 131072 →
+pub kept-talk : (m : Module) (said line part now-kept : List ℕ) (at r kept : ℕ) → length line ≡ 131073 →
     now-kept ≡ take (length line) (take kept line ++ take (at + r - at) (drop at part)) →
     _≡_ {A = Talk} (record { state = m; kept = now-kept; said = said }) (keeping (record { state = m; kept = take kept line; said = said }) (take r (drop at part)))
 unfolding keeping
 kept-talk m said line part now-kept at r kept l e =
     ap (λ (k : List ℕ). record { state = m; kept = k; said = said })
     (e ∙ ap (λ (n : ℕ). take n (take kept line ++ take (at + r - at) (drop at part))) l
-    ∙ ap (λ (n : ℕ). take 131072 (take kept line ++ take n (drop at part))) (add-sub-cancel-left at r))
+    ∙ ap (λ (n : ℕ). take 131073 (take kept line ++ take n (drop at part))) (add-sub-cancel-left at r))

@@ -1,15 +1,15 @@
 -- A turn of a loop over a text, and its end, for a word that it begins with and for the way to a byte.
 use Prim.Native.Nat.{ℕ, suc, _+_, _-_, _≤_, _<_, suc-le-suc}
-use mathlib.Core.Path.{_≡_, refl}
+use mathlib.Core.Path.{_≡_, refl, sym}
 use mathlib.Core.Bool.{Bool, true, false, cond, _&&_, false≢true}
 use mathlib.Core.List.{List, [], _∷_}
 use native.Mathlib.Numerals.{add-one}
 use native.Mathlib.Omega.{arith}
 use lib.Dec.{eqb}
 use lib.ListN.{length, take, drop, getD, length-drop, drop-of-length-le}
-use lib.Seq.{drop-cons, take-all}
+use lib.Seq.{drop-cons, take-all, length-take-le}
 use borrow.Author.Tests.{eq-eqb, ne-eqb}
-use Rattle.console.specs.Texts.{beginsWith, lengthTo}
+use Rattle.console.specs.Texts.{beginsWith, lengthTo, withoutReturn}
 
 module _ (w t : List ℕ) (k : ℕ) (h : k < length w) (g : k < length t) where
   begins-turn : beginsWith (drop k w) (drop k t) ≡ (eqb (getD t k 0) (getD w k 0) && beginsWith (drop (k + 1) w) (drop (k + 1) t))
@@ -72,3 +72,17 @@ begins-within (w ∷ ws) (c ∷ cs) h = suc-le-suc (begins-within ws cs (and-rig
 -- what a part of a text is that reaches to its end
 pub rest-of : (a : ℕ) (t : List ℕ) → take (length t - a) (drop a t) ≡ drop a t
 rest-of a t = take-all (length t - a) (drop a t) (simp length-drop (omega arith))
+
+-- ---- a carriage return before a line's end
+pub none-to-cut : (line : List ℕ) → length line ≡ 0 → 0 ≡ length (withoutReturn line)
+unfolding withoutReturn
+none-to-cut [] e = refl
+none-to-cut (c ∷ cs) e = absurd (omega arith)
+
+pub one-return : (line : List ℕ) → getD line (length line - 1) 0 ≡ 13 → length line - 1 ≡ length (withoutReturn line)
+unfolding withoutReturn
+one-return line e = simp (eq-eqb (getD line (length line - 1) 0) 13 e) (sym (length-take-le (length line - 1) line (omega arith)))
+
+pub no-return : (line : List ℕ) → (getD line (length line - 1) 0 ≡ 13 → ⊥) → length line ≡ length (withoutReturn line)
+unfolding withoutReturn
+no-return line h = simp (ne-eqb (getD line (length line - 1) 0) 13 h)

@@ -1,31 +1,70 @@
--- The search for a line's word, word by word.
-use Prim.Native.Nat.{ℕ, _≤_}
+-- The search for a line's word, word by word; and the items that a step has.
+use Prim.Native.Nat.{ℕ, zero, suc, _≤_, _<_}
 use mathlib.Core.Path.{_≡_, refl}
-use mathlib.Core.Bool.{Bool, true, false, cond}
-use mathlib.Core.List.{List, [], _∷_}
-use lib.ListN.{length}
+use mathlib.Core.Bool.{true, false}
+use mathlib.Core.List.{List, _∷_}
+use native.Mathlib.Omega.{arith}
+use lib.ListN.{length, getD}
+use Rattle.serial.specs.Texts.{sameText}
 use Rattle.console.specs.declared.words.Word.{Word}
-use Rattle.console.specs.Texts.{beginsWith}
-use Rattle.console.specs.Words.{lettersOf, words, firstOf, wordOf}
-use Rattle.console.proofs.TextLaws.{begins-within}
+use Rattle.console.specs.declared.words.Word.the-variants.{Start, Open, Write, Commit, Drop, Hold, Read, Block, Cards, Help, Other}
+use Rattle.console.specs.declared.words.Kind.the-variants as kind
+use Rattle.console.specs.Words.{lettersOf, firstOf, itemsOf}
 
-module _ (w : Word) (ws : List Word) (line : List ℕ) where
-  pub chosen : beginsWith (lettersOf w) line ≡ true → firstOf (w ∷ ws) line ≡ w
+module _ (w : Word) (ws : List Word) (item : List ℕ) where
+  pub chosen : sameText (lettersOf w) item ≡ true → firstOf (w ∷ ws) item ≡ w
   chosen h = rw h refl
 
-  pub passed : beginsWith (lettersOf w) line ≡ false → firstOf (w ∷ ws) line ≡ firstOf ws line
+  pub passed : sameText (lettersOf w) item ≡ false → firstOf (w ∷ ws) item ≡ firstOf ws item
   passed h = rw h refl
 
--- a line begins with its word
-begins-first : (ws : List Word) (line : List ℕ) → beginsWith (lettersOf (firstOf ws line)) line ≡ true
-unfolding beginsWith
-begins-first [] line = refl
-begins-first (w ∷ ws) line = by (beginsWith (lettersOf w) line) refl (begins-first ws line)
-  where
-    by : (b : Bool) → beginsWith (lettersOf w) line ≡ b → beginsWith (lettersOf (firstOf ws line)) line ≡ true → beginsWith (lettersOf (cond b w (firstOf ws line))) line ≡ true
-    by true e h = e
-    by false e h = h
+-- the slots of a start
+pub slot-at : (k : ℕ) → 2 ≤ k → k < 8 → getD (itemsOf Start) k kind.Number ≡ kind.Slot
+unfolding itemsOf
+slot-at zero l h = absurd (omega arith)
+slot-at (suc zero) l h = absurd (omega arith)
+slot-at (suc (suc zero)) l h = refl
+slot-at (suc (suc (suc zero))) l h = refl
+slot-at (suc (suc (suc (suc zero)))) l h = refl
+slot-at (suc (suc (suc (suc (suc zero))))) l h = refl
+slot-at (suc (suc (suc (suc (suc (suc zero)))))) l h = refl
+slot-at (suc (suc (suc (suc (suc (suc (suc zero))))))) l h = refl
+slot-at (suc (suc (suc (suc (suc (suc (suc (suc k)))))))) l h = absurd (omega arith)
 
-pub word-within : (line : List ℕ) → length (lettersOf (wordOf line)) ≤ length line
-unfolding wordOf
-word-within line = begins-within _ line (begins-first words line)
+pub start-number : (k : ℕ) → k < 2 → getD (itemsOf Start) k kind.Number ≡ kind.Number
+unfolding itemsOf
+start-number zero h = refl
+start-number (suc zero) h = refl
+start-number (suc (suc k)) h = absurd (omega arith)
+
+pub write-number : (k : ℕ) → k < 3 → (k ≡ 1 → ⊥) → getD (itemsOf Write) k kind.Number ≡ kind.Number
+unfolding itemsOf
+write-number zero l h = refl
+write-number (suc zero) l h = absurd (h refl)
+write-number (suc (suc zero)) l h = refl
+write-number (suc (suc (suc k))) l h = absurd (omega arith)
+
+pub read-number : (k : ℕ) → (k ≡ 1 → ⊥) → getD (itemsOf Read) k kind.Number ≡ kind.Number
+unfolding itemsOf
+read-number zero h = refl
+read-number (suc zero) h = absurd (h refl)
+read-number (suc (suc k)) h = refl
+
+-- the one item of a step
+pub one-number : (w : Word) (k : ℕ) → length (itemsOf w) ≤ 1 → getD (itemsOf w) k kind.Number ≡ kind.Number
+unfolding itemsOf
+one-number Start k h = absurd (omega arith)
+one-number Write k h = absurd (omega arith)
+one-number Read k h = absurd (omega arith)
+one-number Open zero h = refl
+one-number Open (suc k) h = refl
+one-number Commit zero h = refl
+one-number Commit (suc k) h = refl
+one-number Drop zero h = refl
+one-number Drop (suc k) h = refl
+one-number Hold zero h = refl
+one-number Hold (suc k) h = refl
+one-number Block k h = refl
+one-number Cards k h = refl
+one-number Help k h = refl
+one-number Other k h = refl

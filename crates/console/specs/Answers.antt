@@ -1,67 +1,91 @@
--- The line that answers a turn, from reference/CONSOLE.md, "Answers". One space, 32, parts its items; a line feed, 10, ends it.
-use Prim.Native.Nat.{ℕ, _+_, _≤_}
-use mathlib.Core.Path.{_≡_}
+-- The lines that answer a turn, from reference/CONSOLE.md, "Answers". One space parts two items; a line feed, 10, ends a line.
+use Prim.Native.Nat.{ℕ}
+use Prim.Native.String.{String}
 use mathlib.Core.Bool.{cond}
 use mathlib.Core.List.{List, [], _∷_, _++_}
-use lib.Dec.{leb}
-use lib.IntN.{ℤ, pos}
-use lib.ListN.{length, take}
-use Rattle.serial.specs.Places.{put}
-use Rattle.decimal.specs.Decimals.{decimal, signedDecimal}
+use lib.Dec.{leb, eqb}
+use lib.IntN.{ℤ}
+use lib.ListN.{take}
+use Rattle.serial.specs.Ascii.{ascii}
 use Rattle.serial.specs.declared.Serial.{Serial}
+use Rattle.decimal.specs.Decimals.{decimal, signedDecimal}
+use Rattle.refusal.specs.Words.{wordsOf}
+use Rattle.console.specs.declared.unread.Why.{Why}
 use Rattle.console.specs.declared.turns.Said.{Said}
 use Rattle.console.specs.declared.turns.Said.the-variants as said
 use Rattle.console.specs.declared.turns.Turn.{Turn}
+use Rattle.console.specs.Unread.{whyWords}
 
--- UNREAD
-unfoldable pub unreadLine : List ℕ
-unreadLine = 85 ∷ 78 ∷ 82 ∷ 69 ∷ 65 ∷ 68 ∷ 10 ∷ []
-
--- ok
-unfoldable pub okLine : List ℕ
-okLine = 111 ∷ 107 ∷ 10 ∷ []
-
--- ok, and a space
-unfoldable pub okWord : List ℕ
-okWord = 111 ∷ 107 ∷ 32 ∷ []
-
--- REFUSED, and a space
-unfoldable pub refusedWord : List ℕ
-refusedWord = 82 ∷ 69 ∷ 70 ∷ 85 ∷ 83 ∷ 69 ∷ 68 ∷ 32 ∷ []
-
--- a word and a number
-unfoldable pub numberLine : List ℕ → ℤ → List ℕ
-numberLine word v = word ++ signedDecimal v ++ (10 ∷ [])
+-- a line's end
+abbrev pub end : List ℕ
+end = 10 ∷ []
 
 -- the digits of a serial; none of one whose length is beyond its twelve places, which no step makes
 unfoldable pub digitsText : Serial → List ℕ
 digitsText s = cond (leb (s .len) 12) (take (s .len) (s .digits)) []
 
--- an interval's number and its card's serial
+-- the same where there may be no card: then `-`
+unfoldable pub cardText : Serial → List ℕ
+cardText s = cond (eqb (s .len) 0) (ascii "-") (digitsText s)
+
+-- UNREAD: words
+unfoldable pub unreadLine : Why → List ℕ
+unreadLine why = ascii "UNREAD: " ++ ascii (whyWords why) ++ end
+
+-- REFUSED n: words
+unfoldable pub refusedLine : ℕ → List ℕ
+refusedLine n = ascii "REFUSED " ++ decimal n ++ ascii ": " ++ wordsOf n ++ end
+
+-- ok
+unfoldable pub okLine : List ℕ
+okLine = ascii "ok" ++ end
+
+-- ok VALUE
+unfoldable pub valueLine : ℤ → List ℕ
+valueLine v = ascii "ok " ++ signedDecimal v ++ end
+
+-- ok NUMBER SERIAL
 unfoldable pub heldLine : ℕ → Serial → List ℕ
-heldLine number serial = okWord ++ decimal number ++ (32 ∷ []) ++ digitsText serial ++ (10 ∷ [])
+heldLine number serial = ascii "ok " ++ decimal number ++ ascii " " ++ digitsText serial ++ end
 
--- what is said, with a number and a serial where it is that a hold was accepted
-unfoldable pub saidText : Said → ℕ → Serial → List ℕ
-saidText said.Unread number serial = unreadLine
-saidText said.Done number serial = okLine
-saidText (said.Refused n) number serial = numberLine refusedWord (pos n)
-saidText (said.Value x) number serial = numberLine okWord x
-saidText said.Held number serial = heldLine number serial
+-- ok FORCE WAITING
+unfoldable pub cardsLine : Serial → Serial → List ℕ
+cardsLine force waiting = ascii "ok " ++ cardText force ++ ascii " " ++ cardText waiting ++ end
 
--- the whole line of a turn
+-- the steps with their items
+unfoldable pub helpLines : List String
+helpLines =
+    "# start N B SLOT SLOT SLOT SLOT SLOT SLOT: N samples an interval, energy buckets of B, six registers to track or 0"
+    ∷ "# open PORT SERIAL: begins a card; ports are 0 and 1"
+    ∷ "# write PORT FIELD VALUE: VOFFS IOFFS VGAIN IGAIN PHASE IRMSOFFS SQUELCH POFFS, or 1 to 8"
+    ∷ "# commit PORT: the card is whole and waits for the next interval"
+    ∷ "# drop PORT: the card is forgotten"
+    ∷ "# block VOLTAGES | CURRENTS: samples, at most 4,096 a side"
+    ∷ "# hold PORT: keeps the last closed interval; answers its number and its card's serial"
+    ∷ "# read PORT REGISTER: of what is held; a name (VA_RMS, WATT_A, PA_POS_CNT, MIN1 ..) or a byte address"
+    ∷ "# cards: the serials of the card in force and of the one that waits"
+    ∷ "# help: these lines"
+    ∷ "# A terminal cuts a pasted line at 4,095 bytes: send long blocks from a file, or as several blocks."
+    ∷ "# Numbers are decimal, or hexadecimal behind 0x. One space parts two items. A line that begins with # is a comment."
+    ∷ []
+
+unfoldable pub linesOf : List String → List ℕ
+linesOf [] = []
+linesOf (s ∷ ss) = ascii s ++ end ++ linesOf ss
+
+unfoldable pub helpText : List ℕ
+helpText = linesOf helpLines
+
+-- what is said, with a number and serials where a hold or `cards` says them
+unfoldable pub saidText : Said → ℕ → Serial → Serial → List ℕ
+saidText (said.Unread why) number serial waiting = unreadLine why
+saidText (said.Refused n) number serial waiting = refusedLine n
+saidText said.Done number serial waiting = okLine
+saidText (said.Value x) number serial waiting = valueLine x
+saidText said.Held number serial waiting = heldLine number serial
+saidText said.Cards number serial waiting = cardsLine serial waiting
+saidText said.Help number serial waiting = helpText
+
+-- the whole answer to a turn
 unfoldable pub answerText : Turn → List ℕ
-answerText t = saidText (t .said) (t .number) (t .serial)
-
--- ---- a line that is put together in a buffer of 64 bytes
--- a text was put into the buffer at a place, and r is the place after it
-abbrev pub PutInto : List ℕ → List ℕ → ℕ → ℕ → List ℕ → Type 0
-PutInto before after at r text = (r ≡ at + length text) × (after ≡ put before at text) × (length before ≡ 64)
-
--- the same of a text of at most so many bytes
-abbrev pub PutShort : List ℕ → List ℕ → ℕ → ℕ → List ℕ → ℕ → Type 0
-PutShort before after at r text most = (r ≡ at + length text) × (after ≡ put before at text) × (length text ≤ most)
-
--- the buffer begins with a line of r bytes
-abbrev pub Whole : List ℕ → List ℕ → ℕ → List ℕ → Type 0
-Whole before after r line = (r ≡ length line) × (after ≡ put before 0 line) × (r ≤ 64)
+answerText t = saidText (t .said) (t .number) (t .serial) (t .waiting)

@@ -1,4 +1,4 @@
--- Numbers and samples in a row, each behind one space.
+-- The items of a step: numbers, names and samples in a row, each behind one space.
 use Prim.Native.Nat.{ℕ, zero, suc, _+_}
 use mathlib.Core.Path.{_≡_}
 use mathlib.Core.Bool.{cond, _&&_}
@@ -6,35 +6,60 @@ use mathlib.Core.List.{List, [], _∷_}
 use lib.IntN.{ℤ, pos, negsuc}
 use lib.Signed.{leZ}
 use lib.ListN.{length, take, drop}
+use Rattle.address.specs.Addresses.{byteOf}
+use Rattle.names.specs.declared.Named.{Named}
+use Rattle.names.specs.declared.Named.the-variants as name
+use Rattle.names.specs.Names.{fieldNamed, registerNamed}
 use Rattle.console.specs.declared.numerals.Number.{Number}
 use Rattle.console.specs.declared.numerals.Number.the-variants as number
+use Rattle.console.specs.declared.words.Kind.{Kind}
+use Rattle.console.specs.declared.words.Kind.the-variants as kind
 use Rattle.console.specs.declared.items.Next.{Next}
 use Rattle.console.specs.declared.items.Next.the-variants as next
 use Rattle.console.specs.declared.items.Row.{Row}
 use Rattle.console.specs.Texts.{beginsWith, lengthTo}
 use Rattle.console.specs.Numbers.{valueOf}
 
--- a number, and the bytes that it takes with its space
+-- ---- what an item is worth
+
+-- what a name stands for, or else the item's number
+abbrev pub ownNumber : Named → List ℕ → Number
+ownNumber (name.Is n) item = number.Is (pos n)
+ownNumber name.Not item = valueOf item
+
+-- the byte address of the register that is named, or else the item's number
+abbrev pub byteAddress : Named → List ℕ → Number
+byteAddress (name.Is w) item = number.Is (pos (byteOf (record { 0 = w }) .0))
+byteAddress name.Not item = valueOf item
+
+-- a number from -2^31 to 2^31 - 1
+abbrev pub sampled : Number → Number
+sampled (number.Is x) = cond (leZ (negsuc 2147483647) x && leZ x (pos 2147483647)) (number.Is x) number.Not
+sampled number.Not = number.Not
+
+-- where an item of this kind must stand: `start` takes a register's word address, `read` its byte address
+unfoldable pub worthIn : Kind → List ℕ → Number
+worthIn kind.Number item = valueOf item
+worthIn kind.Field item = ownNumber (fieldNamed item) item
+worthIn kind.Slot item = ownNumber (registerNamed item) item
+worthIn kind.Register item = byteAddress (registerNamed item) item
+worthIn kind.Sample item = sampled (valueOf item)
+
+-- ---- an item, and the bytes that it takes with its space
+
 abbrev pub numbered : Number → ℕ → Next
 numbered (number.Is x) n = next.Number x n
 numbered number.Not n = next.Not
 
--- a space, and an item that is a number
-unfoldable pub nextOf : List ℕ → Next
-nextOf text =
+-- a space, and an item that is worth a number
+unfoldable pub nextOf : Kind → List ℕ → Next
+nextOf k text =
     let item = drop 1 text in
-    cond (beginsWith (32 ∷ []) text) (numbered (valueOf (take (lengthTo 32 item) item)) (lengthTo 32 item + 1))
+    cond (beginsWith (32 ∷ []) text) (numbered (worthIn k (take (lengthTo 32 item) item)) (lengthTo 32 item + 1))
     next.Not
 
--- a number from -2^31 to 2^31 - 1
-abbrev pub sampled : Next → Next
-sampled (next.Number x n) = cond (leZ (negsuc 2147483647) x && leZ x (pos 2147483647)) (next.Number x n) next.Not
-sampled next.Not = next.Not
+-- ---- items in a row, and the bytes that they take
 
-unfoldable pub sampleOf : List ℕ → Next
-sampleOf text = sampled (nextOf text)
-
--- numbers in a row, and the bytes that they take
 pub record Numbers : Type 0 where
   pub values : List ℤ
   pub bytes : ℕ
@@ -46,10 +71,15 @@ abbrev pub before : Next → (ℕ → Numbers) → Numbers
 before (next.Number x n) rest = record { values = x ∷ rest n .values; bytes = n + rest n .bytes }
 before next.Not rest = none
 
--- as many as a text begins with, and at most so many
-unfoldable pub rowOf : (List ℕ → Next) → ℕ → List ℕ → Numbers
-rowOf one zero text = none
-rowOf one (suc most) text = before (one text) (λ n. rowOf one most (drop n text))
+-- as many items of these kinds as a text begins with
+unfoldable pub rowOf : List Kind → List ℕ → Numbers
+rowOf [] text = none
+rowOf (k ∷ ks) text = before (nextOf k text) (λ n. rowOf ks (drop n text))
+
+-- so many samples
+unfoldable pub samples : ℕ → List Kind
+samples zero = []
+samples (suc n) = kind.Sample ∷ samples n
 
 -- the numbers stand at the start of a buffer
 pub record Filled (r : Row) (buffer : List ℤ) (row : Numbers) : Type 0 where

@@ -3,6 +3,8 @@ pub mod Texts
 pub mod Numbers
 pub mod Items
 pub mod Words
+pub mod Unread
 pub mod Turns
 pub mod Answers
 pub mod Session
+pub mod Unchanged

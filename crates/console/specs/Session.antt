@@ -11,6 +11,7 @@ use Rattle.aberzhan.specs.declared.Module.{Module}
 use Rattle.aberzhan.specs.Module.{startOf}
 use Rattle.console.specs.declared.input.Session.{Session}
 use Rattle.console.specs.declared.turns.Turn.{Turn}
+use Rattle.console.specs.Texts.{withoutReturn}
 use Rattle.console.specs.Turns.{turnOf}
 use Rattle.console.specs.Answers.{answerText}
 
@@ -32,19 +33,20 @@ lineTurn m line = turnOf 8192 8192 m line
 -- a line ends: the module goes on, and the answer is said
 unfoldable pub ended : Talk → Talk
 ended t =
-    cond (silent (t .kept)) (record { state = t .state; kept = []; said = t .said })
-    (record { state = lineTurn (t .state) (t .kept) .after; kept = []; said = t .said ++ answerText (lineTurn (t .state) (t .kept)) })
+    let line = withoutReturn (t .kept) in
+    cond (silent line) (record { state = t .state; kept = []; said = t .said })
+    (record { state = lineTurn (t .state) line .after; kept = []; said = t .said ++ answerText (lineTurn (t .state) line) })
 
--- more bytes of a line; of a line that is too long to be read, 131,072 bytes tell that it is
+-- more bytes of a line; of a line that is too long to be read, 131,073 bytes tell that it is, a carriage return among them or not
 unfoldable pub keeping : Talk → List ℕ → Talk
-keeping t bytes = record { state = t .state; kept = take 131072 (t .kept ++ bytes); said = t .said }
+keeping t bytes = record { state = t .state; kept = take 131073 (t .kept ++ bytes); said = t .said }
 
 -- the bytes of the input one after another: a line feed (10) ends a line
 unfoldable pub talked : Talk → List ℕ → Talk
 talked t [] = t
 talked t (c ∷ cs) = talked (cond (eqb c 10) (ended t) (keeping t (c ∷ []))) cs
 
--- the whole answers to an input: before any start the module is that of a refused one, and the last line may lack its line feed
+-- the whole answers to an input: before the first accepted start the module is that of a refused one; the last line may lack its line feed
 unfoldable pub fresh : Module
 fresh = startOf (pos 0) (pos 0) (wordAddr (pos 0) ∷ wordAddr (pos 0) ∷ wordAddr (pos 0) ∷ wordAddr (pos 0) ∷ wordAddr (pos 0) ∷ wordAddr (pos 0) ∷ []) .after
 
@@ -66,15 +68,15 @@ written s = record { «module» = s .«module»; kept = s .kept; used = 0 }
 -- the bytes kept are in the line's buffer, and those of the answers in theirs, with room for so many more; and what the buffers hold
 pub record Ready (s : Session) (line out : List ℕ) (v i : List ℤ) (answers : ℕ) : Type 0 where
   pub kept : s .kept ≤ length line
-  pub used : s .used + 64 * answers ≤ length out
-  pub line-room : length line ≡ 131072
+  pub used : s .used + 1024 * answers ≤ length out
+  pub line-room : length line ≡ 131073
   pub v-room : length v ≡ 8192
   pub i-room : length i ≡ 8192
 
--- a read of 4,096 bytes ends at most so many lines, and no answer is longer than 64 bytes
+-- a read of 256 bytes ends at most so many lines, and no answer is longer than 1,024 bytes
 pub record Rooms (chunk line out : List ℕ) (v i : List ℤ) : Type 0 where
-  pub chunk-room : length chunk ≡ 4096
-  pub line-room : length line ≡ 131072
+  pub chunk-room : length chunk ≡ 256
+  pub line-room : length line ≡ 131073
   pub out-room : length out ≡ 262144
   pub v-room : length v ≡ 8192
   pub i-room : length i ≡ 8192

@@ -1,10 +1,10 @@
 -- What a line comes to: the step that it is, handed to the module, and what is said of it.
 use Prim.Native.Nat.{ℕ}
-use mathlib.Core.Bool.{cond, _&&_}
+use mathlib.Core.Bool.{cond}
 use mathlib.Core.List.{List, [], _∷_}
-use lib.Dec.{eqb, ltb}
+use lib.Dec.{ltb}
 use lib.IntN.{ℤ, pos}
-use lib.ListN.{length, drop, getD}
+use lib.ListN.{length, take, drop, getD}
 use Rattle.serial.specs.Serials.{noSerial}
 use Rattle.address.specs.Addresses.{wordAddr, byteAddr}
 use Rattle.steps.specs.declared.Answer.{Answer}
@@ -16,23 +16,28 @@ use Rattle.aberzhan.specs.declared.Stepped.{Stepped}
 use Rattle.aberzhan.specs.declared.Holding.{Holding}
 use Rattle.aberzhan.specs.declared.Looked.{Looked}
 use Rattle.aberzhan.specs.Module.{startOf, openOf, writeOf, commitOf, dropOf, holdOf, readOf, blockOf}
+use Rattle.aberzhan.specs.Cards.{cardsOf}
 use Rattle.console.specs.declared.words.Word.{Word}
 use Rattle.console.specs.declared.words.Word.the-variants as word
+use Rattle.console.specs.declared.words.Kind.the-variants as kind
+use Rattle.console.specs.declared.unread.Why.{Why}
+use Rattle.console.specs.declared.unread.Why.the-variants as why
 use Rattle.console.specs.declared.turns.Said.{Said}
 use Rattle.console.specs.declared.turns.Said.the-variants as said
 use Rattle.console.specs.declared.turns.Turn.{Turn}
-use Rattle.console.specs.Texts.{beginsWith}
-use Rattle.console.specs.Items.{nextOf, sampleOf, rowOf}
-use Rattle.console.specs.Words.{lettersOf, wordOf, numbersOf}
+use Rattle.console.specs.Texts.{beginsWith, lengthTo}
+use Rattle.console.specs.Items.{rowOf, samples}
+use Rattle.console.specs.Words.{wordOf, itemsOf}
+use Rattle.console.specs.Unread.{stoppedAt, sideStopped}
 
 -- ---- what is said
 
--- without an interval's number and serial
+-- without a number and serials
 abbrev pub plainly : Said → Module → Turn
-plainly s m = record { said = s; number = 0; serial = noSerial; after = m }
+plainly s m = record { said = s; number = 0; serial = noSerial; waiting = noSerial; after = m }
 
-abbrev pub unreadTurn : Module → Turn
-unreadTurn m = plainly said.Unread m
+abbrev pub unreadTurn : Module → Why → Turn
+unreadTurn m why = plainly (said.Unread why) m
 
 abbrev pub saidOf : Answer → Said
 saidOf answer.Done = said.Done
@@ -45,8 +50,9 @@ abbrev pub heldSaid : Answer → Said
 heldSaid answer.Done = said.Held
 heldSaid (answer.Refused n) = said.Refused n
 
+-- an interval's number and serial
 abbrev pub heldTurn : Holding → Turn
-heldTurn h = record { said = heldSaid (h .answer); number = h .number; serial = h .serial; after = h .after }
+heldTurn h = record { said = heldSaid (h .answer); number = h .number; serial = h .serial; waiting = noSerial; after = h .after }
 
 abbrev pub readSaid : Reading → Said
 readSaid (reading.Value x) = said.Value x
@@ -55,67 +61,92 @@ readSaid (reading.Refused n) = said.Refused n
 abbrev pub readTurn : Looked → Turn
 readTurn l = plainly (readSaid (l .answer)) (l .after)
 
--- ---- steps with numbers alone
+-- the serials of the card in force and of the one that waits
+abbrev pub cardsTurn : Module → Turn
+cardsTurn m = record { said = said.Cards; number = 0; serial = cardsOf m .force; waiting = cardsOf m .waiting; after = m }
+
+-- a refused start keeps the module that runs
+abbrev pub begunBy : Answer → Module → Module → Module
+begunBy answer.Done new m = new
+begunBy (answer.Refused n) new m = m
+
+unfoldable pub startedTurn : Module → Stepped → Turn
+startedTurn m s = plainly (saidOf (s .answer)) (begunBy (s .answer) (s .after) m)
+
+-- ---- steps with numbers and names alone
 
 abbrev pub nth : List ℤ → ℕ → ℤ
 nth x k = getD x k (pos 0)
 
-abbrev pub startTurn : List ℤ → Turn
-startTurn x =
-    steppedTurn
+abbrev pub startTurn : Module → List ℤ → Turn
+startTurn m x =
+    startedTurn m
     (startOf (nth x 0) (nth x 1)
     (wordAddr (nth x 2) ∷ wordAddr (nth x 3) ∷ wordAddr (nth x 4) ∷ wordAddr (nth x 5) ∷ wordAddr (nth x 6) ∷ wordAddr (nth x 7) ∷ []))
 
-abbrev pub numbersTurn : Module → Word → List ℤ → Turn
-numbersTurn m word.Start x = startTurn x
-numbersTurn m word.Write x = steppedTurn (writeOf m (nth x 0) (nth x 1) (nth x 2))
-numbersTurn m word.Commit x = steppedTurn (commitOf m (nth x 0))
-numbersTurn m word.Drop x = steppedTurn (dropOf m (nth x 0))
-numbersTurn m word.Hold x = heldTurn (holdOf m (nth x 0))
-numbersTurn m word.Read x = readTurn (readOf m (nth x 0) (byteAddr (nth x 1)))
-numbersTurn m word.Open x = unreadTurn m
-numbersTurn m word.Block x = unreadTurn m
-numbersTurn m word.Other x = unreadTurn m
+abbrev pub itemsTurn : Module → Word → List ℤ → Turn
+itemsTurn m word.Start x = startTurn m x
+itemsTurn m word.Write x = steppedTurn (writeOf m (nth x 0) (nth x 1) (nth x 2))
+itemsTurn m word.Commit x = steppedTurn (commitOf m (nth x 0))
+itemsTurn m word.Drop x = steppedTurn (dropOf m (nth x 0))
+itemsTurn m word.Hold x = heldTurn (holdOf m (nth x 0))
+itemsTurn m word.Read x = readTurn (readOf m (nth x 0) (byteAddr (nth x 1)))
+itemsTurn m word.Cards x = cardsTurn m
+itemsTurn m word.Help x = plainly said.Help m
+itemsTurn m word.Open x = unreadTurn m why.NoStep
+itemsTurn m word.Block x = unreadTurn m why.NoStep
+itemsTurn m word.Other x = unreadTurn m why.NoStep
 
--- as many numbers as the step has, and nothing behind them
-unfoldable pub withNumbers : Module → Word → List ℕ → Turn
-withNumbers m w rest =
-    let row = rowOf nextOf 8 rest in
-    cond (eqb (length (row .values)) (numbersOf w) && eqb (row .bytes) (length rest)) (numbersTurn m w (row .values))
-    (unreadTurn m)
+-- every item that the step has, and nothing behind them
+unfoldable pub withItems : Module → Word → List ℕ → Turn
+withItems m w rest =
+    let row = rowOf (itemsOf w) rest in
+    let count = length (row .values) in
+    cond (ltb count (length (itemsOf w))) (unreadTurn m (stoppedAt (getD (itemsOf w) count kind.Number) (drop (row .bytes) rest)))
+    (cond (ltb (row .bytes) (length rest)) (unreadTurn m why.More)
+    (itemsTurn m w (row .values)))
 
 -- ---- open: the text is all that follows the space behind the port
 unfoldable pub withText : Module → List ℕ → Turn
 withText m rest =
-    let row = rowOf nextOf 1 rest in
+    let row = rowOf (itemsOf word.Open) rest in
     let behind = drop (row .bytes) rest in
-    cond (eqb (length (row .values)) 1 && beginsWith (32 ∷ []) behind) (steppedTurn (openOf m (nth (row .values) 0) (drop 1 behind)))
-    (unreadTurn m)
+    cond (ltb (length (row .values)) 1) (unreadTurn m (stoppedAt kind.Number behind))
+    (cond (beginsWith (32 ∷ []) behind) (steppedTurn (openOf m (nth (row .values) 0) (drop 1 behind)))
+    (unreadTurn m why.Missing))
 
--- ---- block: voltages, a bar, currents; at most a and b of them
+-- ---- block: voltages, a bar (a space and 124), currents; at most a and b of them
+unfoldable pub currentsTurn : ℕ → Module → List ℤ → List ℕ → Turn
+currentsTurn b m v text =
+    let i = rowOf (samples b) text in
+    cond (ltb (i .bytes) (length text)) (unreadTurn m (sideStopped b (length (i .values)) (drop (i .bytes) text)))
+    (steppedTurn (blockOf m v (i .values)))
+
 unfoldable pub withSamples : ℕ → ℕ → Module → List ℕ → Turn
 withSamples a b m rest =
-    let v = rowOf sampleOf a rest in
+    let v = rowOf (samples a) rest in
     let behind = drop (v .bytes) rest in
-    let i = rowOf sampleOf b (drop 2 behind) in
-    cond (beginsWith (32 ∷ 124 ∷ []) behind && eqb (i .bytes) (length (drop 2 behind))) (steppedTurn (blockOf m (v .values) (i .values)))
-    (unreadTurn m)
+    cond (beginsWith (32 ∷ 124 ∷ []) behind) (currentsTurn b m (v .values) (drop 2 behind))
+    (unreadTurn m (sideStopped a (length (v .values)) behind))
 
 -- ---- a line
 
 abbrev pub wordTurn : ℕ → ℕ → Module → Word → List ℕ → Turn
 wordTurn a b m word.Open rest = withText m rest
 wordTurn a b m word.Block rest = withSamples a b m rest
-wordTurn a b m word.Other rest = unreadTurn m
-wordTurn a b m word.Start rest = withNumbers m word.Start rest
-wordTurn a b m word.Write rest = withNumbers m word.Write rest
-wordTurn a b m word.Commit rest = withNumbers m word.Commit rest
-wordTurn a b m word.Drop rest = withNumbers m word.Drop rest
-wordTurn a b m word.Hold rest = withNumbers m word.Hold rest
-wordTurn a b m word.Read rest = withNumbers m word.Read rest
+wordTurn a b m word.Other rest = unreadTurn m why.NoStep
+wordTurn a b m word.Start rest = withItems m word.Start rest
+wordTurn a b m word.Write rest = withItems m word.Write rest
+wordTurn a b m word.Commit rest = withItems m word.Commit rest
+wordTurn a b m word.Drop rest = withItems m word.Drop rest
+wordTurn a b m word.Hold rest = withItems m word.Hold rest
+wordTurn a b m word.Read rest = withItems m word.Read rest
+wordTurn a b m word.Cards rest = withItems m word.Cards rest
+wordTurn a b m word.Help rest = withItems m word.Help rest
 
--- a line of more than 131,071 bytes is not read
+-- a line of more than 131,071 bytes is not read; its first item, up to a space (32), is the step's word
 unfoldable pub turnOf : ℕ → ℕ → Module → List ℕ → Turn
 turnOf a b m line =
-    cond (ltb 131071 (length line)) (unreadTurn m)
-    (wordTurn a b m (wordOf line) (drop (length (lettersOf (wordOf line))) line))
+    let n = lengthTo 32 line in
+    cond (ltb 131071 (length line)) (unreadTurn m why.TooLong)
+    (wordTurn a b m (wordOf (take n line)) (drop n line))

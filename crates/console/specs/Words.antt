@@ -1,42 +1,49 @@
--- The word that a line begins with.
+-- The word that a line begins with, and the items that its step has.
 use Prim.Native.Nat.{ℕ}
 use mathlib.Core.Bool.{cond}
 use mathlib.Core.List.{List, [], _∷_}
+use Rattle.serial.specs.Ascii.{ascii}
+use Rattle.serial.specs.Texts.{sameText}
 use Rattle.console.specs.declared.words.Word.{Word}
-use Rattle.console.specs.declared.words.Word.the-variants.{Start, Open, Write, Commit, Drop, Hold, Read, Block, Other}
-use Rattle.console.specs.Texts.{beginsWith}
+use Rattle.console.specs.declared.words.Word.the-variants.{Start, Open, Write, Commit, Drop, Hold, Read, Block, Cards, Help, Other}
+use Rattle.console.specs.declared.words.Kind.{Kind}
+use Rattle.console.specs.declared.words.Kind.the-variants.{Number, Field, Slot, Register}
 
--- a word's letters, small ones, in ASCII
-abbrev pub lettersOf : Word → List ℕ
-lettersOf Start = 115 ∷ 116 ∷ 97 ∷ 114 ∷ 116 ∷ []
-lettersOf Open = 111 ∷ 112 ∷ 101 ∷ 110 ∷ []
-lettersOf Write = 119 ∷ 114 ∷ 105 ∷ 116 ∷ 101 ∷ []
-lettersOf Commit = 99 ∷ 111 ∷ 109 ∷ 109 ∷ 105 ∷ 116 ∷ []
-lettersOf Drop = 100 ∷ 114 ∷ 111 ∷ 112 ∷ []
-lettersOf Hold = 104 ∷ 111 ∷ 108 ∷ 100 ∷ []
-lettersOf Read = 114 ∷ 101 ∷ 97 ∷ 100 ∷ []
-lettersOf Block = 98 ∷ 108 ∷ 111 ∷ 99 ∷ 107 ∷ []
+-- a word's letters
+unfoldable pub lettersOf : Word → List ℕ
+lettersOf Start = ascii "start"
+lettersOf Open = ascii "open"
+lettersOf Write = ascii "write"
+lettersOf Commit = ascii "commit"
+lettersOf Drop = ascii "drop"
+lettersOf Hold = ascii "hold"
+lettersOf Read = ascii "read"
+lettersOf Block = ascii "block"
+lettersOf Cards = ascii "cards"
+lettersOf Help = ascii "help"
 lettersOf Other = []
 
 abbrev pub words : List Word
-words = Start ∷ Open ∷ Write ∷ Commit ∷ Drop ∷ Hold ∷ Read ∷ Block ∷ []
+words = Start ∷ Open ∷ Write ∷ Commit ∷ Drop ∷ Hold ∷ Read ∷ Block ∷ Cards ∷ Help ∷ []
 
--- the first of some words with which a line begins
+-- the one of some words that an item is
 abbrev pub firstOf : List Word → List ℕ → Word
-firstOf [] line = Other
-firstOf (w ∷ ws) line = cond (beginsWith (lettersOf w) line) w (firstOf ws line)
+firstOf [] item = Other
+firstOf (w ∷ ws) item = cond (sameText (lettersOf w) item) w (firstOf ws item)
 
 unfoldable pub wordOf : List ℕ → Word
-wordOf line = firstOf words line
+wordOf item = firstOf words item
 
--- how many numbers follow it, where only numbers do
-abbrev pub numbersOf : Word → ℕ
-numbersOf Start = 8
-numbersOf Open = 0
-numbersOf Write = 3
-numbersOf Commit = 1
-numbersOf Drop = 1
-numbersOf Hold = 1
-numbersOf Read = 2
-numbersOf Block = 0
-numbersOf Other = 0
+-- what must stand behind it, item by item; an open has its text besides, and a block its samples
+unfoldable pub itemsOf : Word → List Kind
+itemsOf Start = Number ∷ Number ∷ Slot ∷ Slot ∷ Slot ∷ Slot ∷ Slot ∷ Slot ∷ []
+itemsOf Open = Number ∷ []
+itemsOf Write = Number ∷ Field ∷ Number ∷ []
+itemsOf Commit = Number ∷ []
+itemsOf Drop = Number ∷ []
+itemsOf Hold = Number ∷ []
+itemsOf Read = Number ∷ Register ∷ []
+itemsOf Block = []
+itemsOf Cards = []
+itemsOf Help = []
+itemsOf Other = []

@@ -3,9 +3,10 @@ ghost use mathlib.Core.Path.{_≡_};
 ghost use mathlib.Core.List.{_++_};
 ghost use Prim.Native.Nat.{_+_, _≤_};
 ghost use lib.ListN.{length, take};
-ghost use Rattle.console.specs.Session.{Ready, Rooms, fresh, talkOf, ended, talked, written};
-use super::output::put_answer;
+ghost use Rattle.console.specs.Session.{Ready, Rooms, fresh, talkOf, ended, talked, written, silent};
+use super::answers::put_answer;
 use super::texts::length_to;
+use super::texts::line_length;
 use super::turns::take_line;
 use aberzhan::Module;
 use address::word_addr;
@@ -54,32 +55,40 @@ fn keep(line: &mut [u8], kept: usize, part: &[u8]) -> usize
     line.len()
 }
 
-// At a line's end: an empty line and a comment have no answer.
+// Whether a line has no answer: an empty one, and a comment.
+fn is_silent(line: &[u8]) -> bool
+    ensures { λ r. ⌜ r ≡ silent (now (line .entry)) ⌝ }
+{
+    if line.len() == 0 {
+        return true;
+    }
+    line[0] == b'#'
+}
+
+// At a line's end.
 fn end_line(s: Session, line: &[u8], v: &mut [i32], i: &mut [i32], out: &mut [u8]) -> Session
     requires { ⌜ Ready s (now line) (now out) (now v) (now i) 1 ⌝ }
     ensures { λ r. ⌜ talkOf r (now (line .entry)) (now (out .exit)) ≡ ended (talkOf s (now (line .entry)) (now (out .entry))) ⌝ }
-    ensures { λ r. ⌜ (r .kept ≡ 0) × (r .used ≤ s .used + 64) ⌝ }
+    ensures { λ r. ⌜ (r .kept ≡ 0) × (r .used ≤ s .used + 1024) ⌝ }
 {
     let kept = s.kept;
     let used = s.used;
     let module = s.module;
-    if kept == 0 {
-        return s;
-    }
-    if line[0] == b'#' {
+    let n = line_length(&line[..kept]);
+    if is_silent(&line[..n]) {
         return Session {
             module,
             kept: 0,
             used,
         };
     }
-    let t = take_line(module, &line[..kept], v, i);
+    let t = take_line(module, &line[..n], v, i);
     let after = t.after;
-    let n = put_answer(out, used, t);
+    let used = put_answer(out, used, t);
     Session {
         module: after,
         kept: 0,
-        used: n,
+        used,
     }
 }
 
@@ -94,7 +103,7 @@ fn take_part(
 ) -> Session
     requires { ⌜ Ready s (now line) (now out) (now v) (now i) (length (now part)) ⌝ }
     ensures { λ r. ⌜ talkOf r (now (line .exit)) (now (out .exit)) ≡ talked (talkOf s (now (line .entry)) (now (out .entry))) (now (part .entry)) ⌝ }
-    ensures { λ r. ⌜ (r .kept ≤ 131072) × (r .used ≤ length (now (out .exit))) ⌝ }
+    ensures { λ r. ⌜ (r .kept ≤ 131073) × (r .used ≤ length (now (out .exit))) ⌝ }
 {
     let mut s = s;
     let mut at = 0;
@@ -130,11 +139,21 @@ fn write_out(s: Session, out: &[u8]) -> More
 }
 
 fn print(text: &[u8]) -> bool {
+    if text.len() == 0 {
+        return true;
+    }
     if io::write_all(STDOUT_FILENO, text) {
         return true;
     }
     os::fail(b"console: standard output");
     false
+}
+
+// A read that fails ends the input as its end does, and is told.
+fn tell_failure(got: isize) {
+    if got < 0 {
+        os::fail(b"console: standard input");
+    }
 }
 
 // One read. Its answers are written before the next, so that whoever types sees each answer.
@@ -150,6 +169,7 @@ fn read_some(
     ensures { λ r. ⌜ Ready (r .session) (now (line .exit)) (now (out .exit)) (now (v .exit)) (now (i .exit)) (length (now (chunk .exit))) ⌝ }
 {
     let got = libc::read(STDIN_FILENO, chunk);
+    tell_failure(got);
     let n = io::count(got, chunk);
     if n == 0 {
         return More {

@@ -1,31 +1,92 @@
-// Numbers and samples in a row, each behind one space.
+// The items of a step: numbers, names and samples in a row, each behind one space.
 ghost use mathlib.Core.Path.{_≡_};
+ghost use Prim.Native.Nat.{_≤_};
 ghost use lib.ListN.{length};
-ghost use Rattle.console.specs.Items.{nextOf, sampleOf, rowOf, Filled};
+ghost use Rattle.console.specs.Items.{ownNumber, byteAddress, sampled, worthIn, nextOf, rowOf, samples, Filled};
+ghost use Rattle.console.specs.Words.{itemsOf};
 use super::numerals::Number;
 use super::numerals::value;
 use super::texts::begins;
 use super::texts::length_to;
+use super::words::Kind;
+use super::words::Word;
+use super::words::arity;
+use super::words::kind_at;
+use address::WordAddr;
+use address::byte_of;
+use names::Named;
 
-// What a text begins with: a space and a number, which take so many bytes; or not.
+// What a text begins with: a space and an item that is worth a number, and how many bytes they take; or not.
 pub enum Next {
     Number(i64, usize),
     Not,
 }
 
-// How many numbers a text begins with, and how many bytes they take.
+// How many items a text begins with, and how many bytes they take.
 pub struct Row {
     pub count: usize,
     pub taken: usize,
 }
 
-pub(super) fn next_number(text: &[u8]) -> Next
-    ensures { λ r. ⌜ r ≡ nextOf (now (text .entry)) ⌝ }
+// What a name stands for, or else the item's number.
+fn own_number(name: Named, item: &[u8]) -> Number
+    ensures { λ r. ⌜ r ≡ ownNumber name (now (item .entry)) ⌝ }
+{
+    match name {
+        Named::Is(n) => Number::Is(n as i64),
+        Named::Not => value(item),
+    }
+}
+
+// The byte address of the register that is named, or else the item's number.
+fn byte_address(name: Named, item: &[u8]) -> Number
+    ensures { λ r. ⌜ r ≡ byteAddress name (now (item .entry)) ⌝ }
+{
+    match name {
+        Named::Is(w) => {
+            let b = byte_of(WordAddr(w));
+            Number::Is(b.0 as i64)
+        }
+        Named::Not => value(item),
+    }
+}
+
+// A number that is a sample: within the range of i32.
+fn sample(x: Number) -> Number
+    ensures { λ r. ⌜ r ≡ sampled x ⌝ }
+{
+    match x {
+        Number::Is(n) => {
+            if (-2147483648 <= n) & (n <= 2147483647) {
+                Number::Is(n)
+            } else {
+                Number::Not
+            }
+        }
+        Number::Not => Number::Not,
+    }
+}
+
+// What an item is worth where an item of this kind must stand.
+pub(super) fn worth_in(k: Kind, item: &[u8]) -> Number
+    ensures { λ r. ⌜ r ≡ worthIn k (now (item .entry)) ⌝ }
+{
+    match k {
+        Kind::Number => value(item),
+        Kind::Field => own_number(names::field(item), item),
+        Kind::Slot => own_number(names::register(item), item),
+        Kind::Register => byte_address(names::register(item), item),
+        Kind::Sample => sample(value(item)),
+    }
+}
+
+pub(super) fn next_item(k: Kind, text: &[u8]) -> Next
+    ensures { λ r. ⌜ r ≡ nextOf k (now (text .entry)) ⌝ }
 {
     if begins(text, b" ") {
         let item = &text[1..];
         let n = length_to(b' ', item);
-        match value(&item[..n]) {
+        match worth_in(k, &item[..n]) {
             Number::Is(x) => Next::Number(x, n + 1),
             Number::Not => Next::Not,
         }
@@ -34,30 +95,17 @@ pub(super) fn next_number(text: &[u8]) -> Next
     }
 }
 
-// A number that is a sample: within the range of i32.
-pub(super) fn next_sample(text: &[u8]) -> Next
-    ensures { λ r. ⌜ r ≡ sampleOf (now (text .entry)) ⌝ }
+// Takes the items of a step into a lent buffer, until another thing comes or the step has no more.
+pub(super) fn take_items(w: Word, text: &[u8], into: &mut [i64]) -> Row
+    requires { ⌜ 8 ≤ length (now into) ⌝ }
+    ensures { λ r. ⌜ Filled r (now (into .exit)) (rowOf (itemsOf w) (now (text .entry))) ⌝ }
 {
-    match next_number(text) {
-        Next::Number(x, n) => {
-            if (-2147483648 <= x) & (x <= 2147483647) {
-                Next::Number(x, n)
-            } else {
-                Next::Not
-            }
-        }
-        Next::Not => Next::Not,
-    }
-}
-
-// Takes numbers into a lent buffer, until another thing comes or the buffer is full.
-pub(super) fn take_numbers(text: &[u8], into: &mut [i64]) -> Row
-    ensures { λ r. ⌜ Filled r (now (into .exit)) (rowOf nextOf (length (now (into .entry))) (now (text .entry))) ⌝ }
-{
+    let most = arity(w);
     let mut count = 0;
     let mut at = 0;
-    while count < into.len() {
-        match next_number(&text[at..]) {
+    while count < most {
+        let k = kind_at(w, count);
+        match next_item(k, &text[at..]) {
             Next::Number(x, n) => {
                 into[count] = x;
                 count += 1;
@@ -71,14 +119,14 @@ pub(super) fn take_numbers(text: &[u8], into: &mut [i64]) -> Row
     Row { count, taken: at }
 }
 
-// The same for samples.
+// Takes samples into a lent buffer, until another thing comes or the buffer is full.
 pub(super) fn take_samples(text: &[u8], into: &mut [i32]) -> Row
-    ensures { λ r. ⌜ Filled r (now (into .exit)) (rowOf sampleOf (length (now (into .entry))) (now (text .entry))) ⌝ }
+    ensures { λ r. ⌜ Filled r (now (into .exit)) (rowOf (samples (length (now (into .entry)))) (now (text .entry))) ⌝ }
 {
     let mut count = 0;
     let mut at = 0;
     while count < into.len() {
-        match next_sample(&text[at..]) {
+        match next_item(Kind::Sample, &text[at..]) {
             Next::Number(x, n) => {
                 into[count] = x as i32;
                 count += 1;

@@ -6,11 +6,12 @@ mod numerals;
 mod output;
 mod texts;
 mod turns;
+mod unread;
 mod words;
 
 fn main() {
-    let mut chunk = [0u8; 4096];
-    let mut line = [0u8; 131072];
+    let mut chunk = [0u8; 256];
+    let mut line = [0u8; 131073];
     let mut v = [0i32; 8192];
     let mut i = [0i32; 8192];
     let mut out = [0u8; 262144];

@@ -1,15 +1,22 @@
 // A line as a step of the module, and what it comes to.
 ghost use mathlib.Core.Path.{_≡_};
+ghost use Prim.Native.Nat.{_<_};
 ghost use lib.ListN.{length};
-ghost use Rattle.console.specs.Turns.{unreadTurn, saidOf, steppedTurn, heldSaid, heldTurn, readSaid, readTurn};
-ghost use Rattle.console.specs.Turns.{startTurn, numbersTurn, withNumbers, withText, withSamples, turnOf};
-use super::items::take_numbers;
+ghost use Rattle.console.specs.Turns.{plainly, unreadTurn, saidOf, steppedTurn, heldSaid, heldTurn, readSaid, readTurn, cardsTurn};
+ghost use Rattle.console.specs.Turns.{startedTurn, startTurn, itemsTurn, withItems, withText, currentsTurn, withSamples, turnOf};
+use super::items::take_items;
 use super::items::take_samples;
 use super::texts::begins;
+use super::texts::length_to;
+use super::unread::Why;
+use super::unread::side_stopped;
+use super::unread::stopped_at;
+use super::words::Kind;
 use super::words::Word;
 use super::words::arity;
 use super::words::first_word;
-use super::words::letters;
+use super::words::kind_at;
+use aberzhan::Cards;
 use aberzhan::Holding;
 use aberzhan::Looked;
 use aberzhan::Module;
@@ -24,31 +31,41 @@ use steps::Answer;
 const LONGEST: usize = 131071;
 
 pub enum Said {
-    Unread,
+    Unread(Why),
     Refused(u8),
     Done,
     Value(i64),
     Held,
+    Cards,
+    Help,
 }
 
-// What is said, an interval's number and serial where it is that a hold was accepted, and the module after the step.
+// What is said, and the module after the step. A hold says an interval's number and serial, `cards` the serials in force and waiting.
 pub struct Turn {
     pub said: Said,
     pub number: u32,
     pub serial: Serial,
+    pub waiting: Serial,
     pub after: Module,
 }
 
-fn unread(m: Module) -> Turn
-    ensures { λ r. ⌜ r ≡ unreadTurn m ⌝ }
+fn plain(said: Said, m: Module) -> Turn
+    ensures { λ r. ⌜ r ≡ plainly said m ⌝ }
 {
     let none = Serial::none();
     Turn {
-        said: Said::Unread,
+        said,
         number: 0,
         serial: none,
+        waiting: none,
         after: m,
     }
+}
+
+fn unread(m: Module, why: Why) -> Turn
+    ensures { λ r. ⌜ r ≡ unreadTurn m why ⌝ }
+{
+    plain(Said::Unread(why), m)
 }
 
 fn said_of(a: Answer) -> Said
@@ -65,14 +82,7 @@ fn stepped(s: Stepped) -> Turn
 {
     let answer = s.answer;
     let after = s.after;
-    let none = Serial::none();
-    let said = said_of(answer);
-    Turn {
-        said,
-        number: 0,
-        serial: none,
-        after,
-    }
+    plain(said_of(answer), after)
 }
 
 fn said_of_hold(a: Answer) -> Said
@@ -91,10 +101,12 @@ fn held(h: Holding) -> Turn
     let serial = h.serial;
     let after = h.after;
     let said = said_of_hold(answer);
+    let none = Serial::none();
     Turn {
         said,
         number: h.number,
         serial,
+        waiting: none,
         after,
     }
 }
@@ -113,18 +125,37 @@ fn looked(l: Looked) -> Turn
 {
     let answer = l.answer;
     let after = l.after;
-    let none = Serial::none();
-    let said = said_of_read(answer);
+    plain(said_of_read(answer), after)
+}
+
+fn shown(m: Module) -> Turn
+    ensures { λ r. ⌜ r ≡ cardsTurn m ⌝ }
+{
+    let c = m.cards();
+    let force = c.force;
+    let waiting = c.waiting;
     Turn {
-        said,
+        said: Said::Cards,
         number: 0,
-        serial: none,
-        after,
+        serial: force,
+        waiting,
+        after: m,
     }
 }
 
-fn started(x: [i64; 8]) -> Turn
-    ensures { λ r. ⌜ r ≡ startTurn x ⌝ }
+// A refused start keeps the module that runs.
+fn started(m: Module, s: Stepped) -> Turn
+    ensures { λ r. ⌜ r ≡ startedTurn m s ⌝ }
+{
+    let answer = s.answer;
+    match answer {
+        Answer::Done => stepped(s),
+        Answer::Refused(n) => plain(Said::Refused(n), m),
+    }
+}
+
+fn start(m: Module, x: [i64; 8]) -> Turn
+    ensures { λ r. ⌜ r ≡ startTurn m x ⌝ }
 {
     let a = word_addr(x[2]);
     let b = word_addr(x[3]);
@@ -132,75 +163,86 @@ fn started(x: [i64; 8]) -> Turn
     let d = word_addr(x[5]);
     let e = word_addr(x[6]);
     let f = word_addr(x[7]);
-    stepped(Module::start(x[0], x[1], [a, b, c, d, e, f]))
+    started(m, Module::start(x[0], x[1], [a, b, c, d, e, f]))
 }
 
-// A step whose line has numbers alone.
-fn numbered(m: Module, w: Word, x: [i64; 8]) -> Turn
-    ensures { λ r. ⌜ r ≡ numbersTurn m w x ⌝ }
+// A step whose items are worth these numbers.
+fn with_worths(m: Module, w: Word, x: [i64; 8]) -> Turn
+    ensures { λ r. ⌜ r ≡ itemsTurn m w x ⌝ }
 {
     match w {
-        Word::Start => started(x),
+        Word::Start => start(m, x),
         Word::Write => stepped(m.write(x[0], x[1], x[2])),
         Word::Commit => stepped(m.commit(x[0])),
         Word::Drop => stepped(m.drop(x[0])),
         Word::Hold => held(m.hold(x[0])),
         Word::Read => looked(m.read(x[0], byte_addr(x[1]))),
-        Word::Open => unread(m),
-        Word::Block => unread(m),
-        Word::Other => unread(m),
+        Word::Cards => shown(m),
+        Word::Help => plain(Said::Help, m),
+        Word::Open => unread(m, Why::NoStep),
+        Word::Block => unread(m, Why::NoStep),
+        Word::Other => unread(m, Why::NoStep),
     }
 }
 
-fn with_numbers(m: Module, w: Word, rest: &[u8]) -> Turn
-    ensures { λ r. ⌜ r ≡ withNumbers m w (now (rest .entry)) ⌝ }
+fn with_items(m: Module, w: Word, rest: &[u8]) -> Turn
+    ensures { λ r. ⌜ r ≡ withItems m w (now (rest .entry)) ⌝ }
 {
     let mut x = [0i64; 8];
-    let n = take_numbers(rest, &mut x);
-    if n.count != arity(w) {
-        return unread(m);
+    let n = take_items(w, rest, &mut x);
+    let at = n.taken;
+    if n.count < arity(w) {
+        let k = kind_at(w, n.count);
+        return unread(m, stopped_at(k, &rest[at..]));
     }
-    if n.taken != rest.len() {
-        return unread(m);
+    if at < rest.len() {
+        return unread(m, Why::More);
     }
-    numbered(m, w, x)
+    with_worths(m, w, x)
 }
 
 // The text is all that follows the space behind the port.
 fn with_text(m: Module, rest: &[u8]) -> Turn
     ensures { λ r. ⌜ r ≡ withText m (now (rest .entry)) ⌝ }
 {
-    let mut port = [0i64; 1];
-    let n = take_numbers(rest, &mut port);
-    if n.count != 1 {
-        return unread(m);
-    }
+    let mut x = [0i64; 8];
+    let n = take_items(Word::Open, rest, &mut x);
     let at = n.taken;
     let behind = &rest[at..];
-    if begins(behind, b" ") {
-        return stepped(m.open(port[0], &behind[1..]));
+    if n.count < 1 {
+        return unread(m, stopped_at(Kind::Number, behind));
     }
-    unread(m)
+    if begins(behind, b" ") {
+        return stepped(m.open(x[0], &behind[1..]));
+    }
+    unread(m, Why::Missing)
+}
+
+// The currents, behind the bar.
+fn with_currents(m: Module, v: &[i32], text: &[u8], i: &mut [i32]) -> Turn
+    ensures { λ r. ⌜ r ≡ currentsTurn (length (now (i .entry))) m (now (v .entry)) (now (text .entry)) ⌝ }
+{
+    let n = take_samples(text, i);
+    let at = n.taken;
+    let count = n.count;
+    if at < text.len() {
+        return unread(m, side_stopped(i.len(), count, &text[at..]));
+    }
+    stepped(m.block(v, &i[..count]))
 }
 
 // Voltages, a bar, currents.
 fn with_samples(m: Module, rest: &[u8], v: &mut [i32], i: &mut [i32]) -> Turn
     ensures { λ r. ⌜ r ≡ withSamples (length (now (v .entry))) (length (now (i .entry))) m (now (rest .entry)) ⌝ }
 {
-    let a = take_samples(rest, v);
-    let at = a.taken;
+    let n = take_samples(rest, v);
+    let at = n.taken;
+    let count = n.count;
     let behind = &rest[at..];
     if begins(behind, b" |") {
-        let currents = &behind[2..];
-        let b = take_samples(currents, i);
-        if b.taken != currents.len() {
-            return unread(m);
-        }
-        let voltage = a.count;
-        let current = b.count;
-        return stepped(m.block(&v[..voltage], &i[..current]));
+        return with_currents(m, &v[..count], &behind[2..], i);
     }
-    unread(m)
+    unread(m, side_stopped(v.len(), count, behind))
 }
 
 // A line that is neither empty nor a comment. Its samples go by way of two lent buffers, which have room for as many as a line may have.
@@ -208,20 +250,22 @@ pub(super) fn take_line(m: Module, line: &[u8], v: &mut [i32], i: &mut [i32]) ->
     ensures { λ r. ⌜ r ≡ turnOf (length (now (v .entry))) (length (now (i .entry))) m (now (line .entry)) ⌝ }
 {
     if LONGEST < line.len() {
-        return unread(m);
+        return unread(m, Why::TooLong);
     }
-    let w = first_word(line);
-    let n = letters(w);
+    let n = length_to(b' ', line);
+    let w = first_word(&line[..n]);
     let rest = &line[n..];
     match w {
         Word::Open => with_text(m, rest),
         Word::Block => with_samples(m, rest, v, i),
-        Word::Other => unread(m),
-        Word::Start => with_numbers(m, w, rest),
-        Word::Write => with_numbers(m, w, rest),
-        Word::Commit => with_numbers(m, w, rest),
-        Word::Drop => with_numbers(m, w, rest),
-        Word::Hold => with_numbers(m, w, rest),
-        Word::Read => with_numbers(m, w, rest),
+        Word::Other => unread(m, Why::NoStep),
+        Word::Start => with_items(m, w, rest),
+        Word::Write => with_items(m, w, rest),
+        Word::Commit => with_items(m, w, rest),
+        Word::Drop => with_items(m, w, rest),
+        Word::Hold => with_items(m, w, rest),
+        Word::Read => with_items(m, w, rest),
+        Word::Cards => with_items(m, w, rest),
+        Word::Help => with_items(m, w, rest),
     }
 }

@@ -1,8 +1,10 @@
-// The word that a line begins with.
+// The word that a line begins with, and the items that its step has.
 ghost use mathlib.Core.Path.{_≡_};
-ghost use lib.ListN.{length};
-ghost use Rattle.console.specs.Words.{wordOf, lettersOf, numbersOf};
-use super::texts::begins;
+ghost use Prim.Native.Nat.{_≤_, _<_};
+ghost use lib.ListN.{length, getD};
+ghost use Rattle.console.specs.declared.words.Kind.the-variants as «kind»;
+ghost use Rattle.console.specs.Words.{wordOf, itemsOf};
+use serial::same_text;
 
 pub enum Word {
     Start,
@@ -13,69 +15,91 @@ pub enum Word {
     Hold,
     Read,
     Block,
+    Cards,
+    Help,
     Other,
 }
 
-pub(super) fn first_word(line: &[u8]) -> Word
-    ensures { λ r. ⌜ r ≡ wordOf (now (line .entry)) ⌝ }
+// What must stand at an item's place: a number; one or a name beside it; a sample.
+pub enum Kind {
+    Number,
+    Field,
+    Slot,
+    Register,
+    Sample,
+}
+
+pub(super) fn first_word(item: &[u8]) -> Word
+    ensures { λ r. ⌜ r ≡ wordOf (now (item .entry)) ⌝ }
 {
-    if begins(line, b"start") {
+    if same_text(b"start", item) {
         return Word::Start;
     }
-    if begins(line, b"open") {
+    if same_text(b"open", item) {
         return Word::Open;
     }
-    if begins(line, b"write") {
+    if same_text(b"write", item) {
         return Word::Write;
     }
-    if begins(line, b"commit") {
+    if same_text(b"commit", item) {
         return Word::Commit;
     }
-    if begins(line, b"drop") {
+    if same_text(b"drop", item) {
         return Word::Drop;
     }
-    if begins(line, b"hold") {
+    if same_text(b"hold", item) {
         return Word::Hold;
     }
-    if begins(line, b"read") {
+    if same_text(b"read", item) {
         return Word::Read;
     }
-    if begins(line, b"block") {
+    if same_text(b"block", item) {
         return Word::Block;
+    }
+    if same_text(b"cards", item) {
+        return Word::Cards;
+    }
+    if same_text(b"help", item) {
+        return Word::Help;
     }
     Word::Other
 }
 
-// How many letters a word has.
-pub(super) fn letters(w: Word) -> usize
-    ensures { λ r. ⌜ r ≡ length (lettersOf w) ⌝ }
-{
-    match w {
-        Word::Start => 5,
-        Word::Open => 4,
-        Word::Write => 5,
-        Word::Commit => 6,
-        Word::Drop => 4,
-        Word::Hold => 4,
-        Word::Read => 4,
-        Word::Block => 5,
-        Word::Other => 0,
-    }
-}
-
-// How many numbers follow it, where only numbers do.
+// How many items follow it, but for the text of an open and the samples of a block.
 pub(super) fn arity(w: Word) -> usize
-    ensures { λ r. ⌜ r ≡ numbersOf w ⌝ }
+    ensures { λ r. ⌜ (r ≡ length (itemsOf w)) × (r ≤ 8) ⌝ }
 {
     match w {
         Word::Start => 8,
-        Word::Open => 0,
+        Word::Open => 1,
         Word::Write => 3,
         Word::Commit => 1,
         Word::Drop => 1,
         Word::Hold => 1,
         Word::Read => 2,
         Word::Block => 0,
+        Word::Cards => 0,
+        Word::Help => 0,
         Word::Other => 0,
+    }
+}
+
+// What must stand as its kth item.
+pub(super) fn kind_at(w: Word, k: usize) -> Kind
+    requires { ⌜ k < length (itemsOf w) ⌝ }
+    ensures { λ r. ⌜ r ≡ getD (itemsOf w) k «kind».Number ⌝ }
+{
+    match w {
+        Word::Start => { if k < 2 { Kind::Number } else { Kind::Slot } }
+        Word::Write => { if k == 1 { Kind::Field } else { Kind::Number } }
+        Word::Read => { if k == 1 { Kind::Register } else { Kind::Number } }
+        Word::Open => Kind::Number,
+        Word::Commit => Kind::Number,
+        Word::Drop => Kind::Number,
+        Word::Hold => Kind::Number,
+        Word::Block => Kind::Number,
+        Word::Cards => Kind::Number,
+        Word::Help => Kind::Number,
+        Word::Other => Kind::Number,
     }
 }

@@ -1,61 +1,11 @@
--- Laws of values and lines.
-use Prim.Native.Nat.{ℕ, _+_, _-_, _*_, _≤_, _<_}
-use mathlib.Core.Path.{_≡_, refl, sym, ap, _∙_}
-use mathlib.Core.Bool.{Bool, true, false}
-use mathlib.Core.List.{List, [], _∷_, _++_}
-use native.Mathlib.Nat.{zero-add}
-use native.Mathlib.Numerals.{add-one}
-use native.Mathlib.Omega.{arith}
-use lib.Dec.{leb}
-use lib.ListN.{length, getD, take, drop, length-drop}
-use lib.Seq.{take-all}
-use borrow.Author.Tests.{leb-true, leb-false, le-leb, lt-leb}
+-- Laws of lines.
+use Prim.Native.Nat.{ℕ, _+_, _≤_}
+use mathlib.Core.Path.{_≡_}
+use mathlib.Core.List.{List, _++_}
+use lib.ListN.{length, take}
 use Rattle.serial.specs.Places.{putWithin}
 use Rattle.serial.proofs.Places.{put-fits, front-put}
-use Rattle.refusal.specs.Words.{wordsOf, writtenOf}
-use Rattle.refusal.proofs.Rows.{words-short, written-all}
-use Rattle.counter.specs.Values.{numeral, held}
-
--- ---- a number that is held at its bound
-pub held-small : (v : ℕ) → v ≤ 100000000 → held v ≡ v
-unfolding held
-held-small v l = simp (le-leb v 100000000 l)
-
-pub held-large : (v : ℕ) → 100000000 < v → held v ≡ 100000000
-unfolding held
-held-large v l = simp (lt-leb v 100000000 l)
-
--- one digit more
-pub held-more : (v d : ℕ) → held (10 * held v + d) ≡ held (10 * v + d)
-held-more v d = by (leb v 100000000) refl
-  where
-    by : (t : Bool) → leb v 100000000 ≡ t → held (10 * held v + d) ≡ held (10 * v + d)
-    by true e = ap (λ (n : ℕ). held (10 * n + d)) (held-small v (leb-true _ _ e))
-    by false e =
-        let l = leb-false v 100000000 e in
-        ap (λ (n : ℕ). held (10 * n + d)) (held-large v l)
-        ∙ held-large (10 * 100000000 + d) (omega arith)
-        ∙ sym (held-large (10 * v + d) (omega arith))
-
-pub numeral-more : (t : List ℕ) (k : ℕ) → numeral t (k + 1) ≡ 10 * numeral t k + (getD t k 0 - 48)
-unfolding numeral
-numeral-more t k = rw add-one refl
 
 -- ---- a text that was put at a place and is read from the front
 pub shown-more : (b t : List ℕ) (at : ℕ) → at + length t ≤ length b → take (at + length t) (putWithin b at t) ≡ take at b ++ t
 shown-more b t at l = rw (put-fits b t at l) (front-put b t at l)
-
--- ---- words in forty bytes
-pub words-shown : (n : ℕ) (b : List ℕ) → length b ≡ 40 → take (writtenOf (wordsOf n) (length b)) (putWithin b 0 (wordsOf n)) ≡ wordsOf n
-words-shown n b l =
-    let s = words-short n in
-    let r = shown-more b (wordsOf n) 0 (omega arith) in
-    ap (λ (k : ℕ). take k (putWithin b 0 (wordsOf n))) (written-all (wordsOf n) (length b) (omega arith) ∙ sym (zero-add (length (wordsOf n)))) ∙ r
-
--- ---- what stands behind a first byte
-pub begun : (w : List ℕ) → getD w 0 0 ≡ 45 → 1 ≤ length w
-begun [] e = omega (arith, e)
-begun (a ∷ w) e = omega arith
-
-pub behind : (w : List ℕ) → take (length w - 1) (drop 1 w) ≡ drop 1 w
-behind w = take-all (length w - 1) (drop 1 w) (simp length-drop (omega arith))

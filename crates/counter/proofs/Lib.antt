@@ -1,2 +1,2 @@
--- Laws of values and lines.
+-- Laws of lines.
 pub mod Laws

@@ -4,7 +4,7 @@ use mathlib.Core.List.{List, [], _∷_, _++_}
 use lib.IntN.{ℤ, pos}
 use lib.ListN.{take}
 use Rattle.decimal.specs.Decimals.{signedDecimal}
-use Rattle.refusal.specs.Ascii.{ascii}
+use Rattle.serial.specs.Ascii.{ascii}
 use Rattle.refusal.specs.Words.{wordsOf}
 use Rattle.counter.specs.declared.lines.Line.{Line}
 

@@ -5,12 +5,11 @@
 mod lines;
 mod list;
 mod orders;
-mod values;
 
 use libc::STDOUT_FILENO;
 use lines::Line;
 use orders::Order;
-use values::Value;
+use typed::Value;
 
 // The eight values of a new card, or which of them, from 1, is no whole number.
 struct Fields {
@@ -19,7 +18,9 @@ struct Fields {
 }
 
 fn say(text: &[u8]) {
-    io::write_all(STDOUT_FILENO, text);
+    if !io::write_all(STDOUT_FILENO, text) {
+        os::fail(b"counter: standard output");
+    }
 }
 
 fn print_bytes(bytes: [u8; 96], n: usize) {
@@ -67,7 +68,7 @@ fn beside(path: &[u8], name: &mut [u8; 4096]) -> usize {
 fn value_at(k: usize) -> Value {
     let mut buffer = io::buffer();
     let n = os::arg(k, &mut buffer);
-    values::value_of(&buffer[..n])
+    typed::value_of(&buffer[..n])
 }
 
 fn read_values() -> Fields {
@@ -111,7 +112,7 @@ fn find(book: &[u8]) {
         refuse(place);
         return;
     }
-    print_card(book::card_of(book, &buffer[..n]), &buffer[..n]);
+    print_card(lookup::card_of(book, &buffer[..n]), &buffer[..n]);
 }
 
 fn check(book: &[u8]) {
@@ -123,6 +124,12 @@ fn check(book: &[u8]) {
     say(b"WELL FORMED\n");
 }
 
+// Whether a file's bytes ended, or were more than there was room for, and did not stop at a read that failed: the next read tells.
+fn was_read(file: i32) -> bool {
+    let mut byte = [0u8; 1];
+    0 <= libc::read(file, &mut byte)
+}
+
 // The orders that only read the book.
 fn look(order: Order, path: &[u8]) {
     let file = os::open_read(path);
@@ -132,6 +139,11 @@ fn look(order: Order, path: &[u8]) {
     }
     let mut bytes = io::large_buffer();
     let n = io::read_full(file, &mut bytes);
+    if !was_read(file) {
+        not_done(path);
+        libc::close(file);
+        return;
+    }
     libc::close(file);
     match order {
         Order::Find => find(&bytes[..n]),
@@ -189,6 +201,11 @@ fn write_changed(order: Order, path: &[u8], f: [i64; 8], second: i32) -> bool {
     }
     let mut bytes = io::large_buffer();
     let n = io::read_full(file, &mut bytes);
+    if !was_read(file) {
+        not_done(path);
+        libc::close(file);
+        return false;
+    }
     libc::close(file);
     let answer = change(order, &mut bytes, n, f);
     if answer < 0 {

@@ -1,9 +1,9 @@
 -- The day at a site, computed: the sequence shortens as said, and both sequences close the same intervals, tell the same and leave the same module.
 use mathlib.Core.Path.{refl}
-use Rattle.number.specs.Range.{in24, clipped, heldWithin}
+use Rattle.range.specs.Range.{in24, clipped, heldWithin}
 use Rattle.number.specs.Sign.{withSign, lessened}
 use Rattle.number.specs.Rounding.{floorDiv, towardZero}
-use Rattle.number.specs.Root.{rootOf, rootBy}
+use Rattle.root.specs.Root.{rootOf, rootBy}
 use Rattle.serial.specs.Every.{every}
 use Rattle.serial.specs.Serials.{digitsOk, isSerial, padded, serialOf}
 use Rattle.card.specs.Fields.{lows, highs, fitsField, isField, fieldInRange}
@@ -14,12 +14,12 @@ use Rattle.rules.specs.Source.{vrmsOf, irmsOf, wattOf, ipeakOf, six, figuresOf}
 use Rattle.energy.specs.Energies.{advanced, joinedBy, plusAfter, minusAfter}
 use Rattle.address.specs.Addresses.{trackable, untracked, words, position, placeOf, byteOf, registerOf}
 use Rattle.address.specs.Slots.{slotOk, everySlot}
-use Rattle.interval.specs.Tracking.{tracked, further, lowest, highest, followed}
+use Rattle.tracking.specs.Tracking.{tracked, further, lowest, highest, followed}
 use Rattle.interval.specs.Close.{sourceAfter, sevenOf, registersAfter, numberAfter, closedOf}
 use Rattle.meter.specs.Core.{samplesOf, lastOf, closedWork}
 use Rattle.meter.specs.Blocks.{waitOf, nextCard, soundOf, blockOf as meterBlock}
-use Rattle.meter.specs.Starting.{numbersOk, freshOf, startOf as meterStart}
-use Rattle.port.specs.Desks.{emptyCard, withField, opening, writing, allWritten, cardOn, finished, discarded}
+use Rattle.starting.specs.Starting.{numbersOk, freshOf, startOf as meterStart}
+use Rattle.desk.specs.Desks.{emptyCard, withField, opening, writing, allWritten, cardOn, finished, discarded}
 use Rattle.port.specs.Holds.{copyOf, copied}
 use Rattle.port.specs.Reading.{registers, slotOff, look}
 use Rattle.aberzhan.specs.Module.{portAt, freshModule, startOf, openOf, writeOf, commitOf, dropOf, holdOf, readOf, blockOf}

@@ -23,7 +23,7 @@ use Rattle.interval.specs.declared.close.Closed.{Closed}
 use Rattle.address.specs.Slots.{off}
 use Rattle.meter.specs.Core.{core}
 use Rattle.aberzhan.specs.declared.Module.{Module}
-use Rattle.port.specs.Desks.{Edit, openWith, writeField, shutDesk}
+use Rattle.desk.specs.Desks.{Edit, openWith, writeField, shutDesk}
 use Rattle.port.specs.Holds.{Value, interval, register}
 use Rattle.aberzhan.specs.Ports.{ports, aberzhan}
 use Rattle.aberzhan.specs.Module.{startOf}

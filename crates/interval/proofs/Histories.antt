@@ -14,11 +14,11 @@ use Rattle.sample.specs.declared.Sums.{Sums}
 use Rattle.sample.specs.Sums.{Sample}
 use Rattle.interval.specs.declared.close.Settings.{Settings}
 use Rattle.interval.specs.declared.close.Closed.{Closed}
-use Rattle.interval.specs.Tracking.{further, lowest, highest, followed}
+use Rattle.tracking.specs.Tracking.{further, lowest, highest, followed}
 use Rattle.interval.specs.Close.{closedOf, registersAfter, sourceAfter, numberAfter, noneClosed}
 use Rattle.interval.specs.Whole.{sumsOf, intervalOf}
 use Rattle.interval.specs.History.{ClosedNext, ClosedInTurn, AllOf, OneOf, Least, Greatest, valueOf, Followed, ClosesFollowed}
-use Rattle.interval.proofs.Slots.{slot-at}
+use Rattle.tracking.proofs.Slots.{slot-at}
 
 -- an interval that is worked from its samples closes next
 pub whole-next : (first : Bool) (t : Settings) (c : Card) (before : ℤ) (xs : List Sample) (old : Closed) →

@@ -1,5 +1,4 @@
 -- Laws of one interval.
-pub mod Slots
 pub mod Directions
 pub mod Lends
 pub mod Wholes

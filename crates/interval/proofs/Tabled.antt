@@ -2,10 +2,10 @@
 use mathlib.Core.Path.{_≡_, refl}
 use mathlib.Core.List.{map}
 use lib.IntN.{ℤ}
-use Rattle.number.specs.Range.{clipped, heldWithin}
+use Rattle.range.specs.Range.{clipped, heldWithin}
 use Rattle.number.specs.Sign.{withSign, lessened}
 use Rattle.number.specs.Rounding.{floorDiv, towardZero}
-use Rattle.number.specs.Root.{rootOf, rootBy}
+use Rattle.root.specs.Root.{rootOf, rootBy}
 use Rattle.sample.specs.Sample.{corrected, mixed, voltage, current, phased}
 use Rattle.sample.specs.Sums.{joined, previous, summed, added, addedAll}
 use Rattle.rules.specs.Rules.{rms, squelched, activeOf, apparentOf, factorOf, crestOf}

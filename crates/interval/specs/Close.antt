@@ -15,7 +15,7 @@ use Rattle.interval.specs.declared.close.Closed.{Closed}
 use Rattle.rules.specs.Source.{vrmsOf, figuresOf, wattOf}
 use Rattle.energy.specs.declared.Energy.{Energy}
 use Rattle.energy.specs.Energies.{plusAfter, minusAfter, noEnergy}
-use Rattle.interval.specs.Tracking.{followed}
+use Rattle.tracking.specs.Tracking.{followed}
 
 -- a source with another record of one direction's energy
 unfoldable pub withPlus : Source → Energy → Source

@@ -12,7 +12,7 @@ use Rattle.sample.specs.declared.Sums.{Sums}
 use Rattle.address.specs.Slots.{off}
 use Rattle.interval.specs.declared.close.Settings.{Settings}
 use Rattle.interval.specs.declared.close.Closed.{Closed}
-use Rattle.interval.specs.Tracking.{tracked}
+use Rattle.tracking.specs.Tracking.{tracked}
 use Rattle.interval.specs.Close.{sevenOf, closedOf, noneClosed}
 
 -- z closed next after `old`, of some card, sums and number of samples; `first` at the module's first close

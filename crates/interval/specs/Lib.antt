@@ -1,5 +1,4 @@
--- One interval, as document 01 has it under "From samples to an interval": its close, tracking, and the whole of it.
-pub mod Tracking
+-- One interval, as document 01 has it under "From samples to an interval": its close, and the whole of it.
 pub mod Close
 pub mod Whole
 pub mod Rms

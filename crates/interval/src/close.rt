@@ -1,9 +1,8 @@
 // The close of an interval.
 ghost use mathlib.Core.Path.{_≡_};
-ghost use Rattle.number.specs.Range.{capped};
+ghost use Rattle.range.specs.Range.{capped};
 ghost use Rattle.energy.specs.Energies.{advanced};
 ghost use Rattle.interval.specs.Close.{withPlus, withMinus, sourceAfter, sevenOf, registersAfter, closedOf, noneClosed};
-use super::track::Ends;
 use address::WordAddr;
 use card::Card;
 use energy::Energy;
@@ -11,6 +10,7 @@ use rules::WATT;
 use sample::Flow;
 use sample::Sums;
 use serial::Serial;
+use tracking::Ends;
 
 // n: samples per interval; b: the bucket; track: the words that the six slots track.
 pub struct Settings {

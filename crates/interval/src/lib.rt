@@ -1,3 +1,2 @@
-// One interval: the registers at its close, and what the six slots track.
+// One interval: the registers at its close.
 pub mod close;
-pub mod track;

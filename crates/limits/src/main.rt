@@ -115,7 +115,7 @@ fn lay_cards(buffer: &mut [u8]) {
     while k < 1023 {
         let text = serial_text(k);
         let serial = Serial::of(&text);
-        let bytes = card::card_bytes(serial, PLAIN);
+        let bytes = cardbytes::card_bytes(serial, PLAIN);
         serial::put_at(buffer, 2 + 37 * k, &bytes);
         k += 1;
     }

@@ -3,6 +3,5 @@ pub mod Sound
 pub mod Stretches
 pub mod Keeping
 pub mod Ways
-pub mod Starts
 pub mod Agreement
 pub mod Decided

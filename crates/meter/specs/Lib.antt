@@ -1,5 +1,4 @@
--- Samples into intervals, as document 01 has it: the start, the card that comes into force, a block.
+-- Samples into intervals, as document 01 has it: the card that comes into force, a block.
 pub mod Core
 pub mod Blocks
-pub mod Starting
 pub mod Inside

@@ -1,8 +1,6 @@
 -- The laws of the whole-number rules, and those that let proofs work with signed numbers.
 pub mod Signed
 pub mod Fits
-pub mod Ranges
 pub mod Signs
 pub mod Divisions
-pub mod Roots
 pub mod Decided

@@ -1,5 +1,3 @@
 -- The whole-number rules of document 01: each rule is a definition here, and the laws of proofs/ show that it is the rule.
-pub mod Range
 pub mod Sign
 pub mod Rounding
-pub mod Root

@@ -1,45 +1,9 @@
-// The whole-number rules of document 01: range and clipping, sign and size, both roundings, squares and products, the root.
+// The whole-number rules of document 01: sign and size, both roundings, squares and products.
 ghost use mathlib.Core.Path.{_≡_};
 ghost use Prim.Native.Nat.{_^_, _≤_};
 ghost use lib.IntN.{natAbs, _*ℤ_};
-ghost use Rattle.number.specs.Range.{in24, heldWithin, clipped, capped};
 ghost use Rattle.number.specs.Sign.{withSign, lessened, squareOf};
 ghost use Rattle.number.specs.Rounding.{floorDiv, towardZero};
-ghost use Rattle.number.specs.Root.{rootOf};
-
-// Whether x is in the 24-bit range.
-pub fn in_range(x: i32) -> bool
-    ensures { λ r. ⌜ r ≡ in24 x ⌝ }
-{
-    (-8388608 <= x) & (x <= 8388607)
-}
-
-// x held within lo and hi.
-pub fn held_within(x: i64, lo: i64, hi: i64) -> i64
-    ensures { λ r. ⌜ r ≡ heldWithin lo hi x ⌝ }
-{
-    if x < lo {
-        lo
-    } else if hi < x {
-        hi
-    } else {
-        x
-    }
-}
-
-// x, replaced by the nearer end of the 24-bit range.
-pub fn clip(x: i64) -> i32
-    ensures { λ r. ⌜ r ≡ clipped x ⌝ }
-{
-    held_within(x, -8388608, 8388607) as i32
-}
-
-// x, at most 8,388,607.
-pub fn cap(x: u64) -> u32
-    ensures { λ r. ⌜ r ≡ capped x ⌝ }
-{
-    if x < 8388607 { x as u32 } else { 8388607 }
-}
 
 // The size of x, which even the lowest i64 has as a u64.
 pub fn size(x: i64) -> u64
@@ -110,22 +74,4 @@ pub fn product(x: i32, y: i32) -> i64
     ensures { λ r. ⌜ r ≡ x *ℤ y ⌝ }
 {
     x as i64 * y as i64
-}
-
-// The root of x, rounded down: a pair of bits at a time, from the highest.
-pub fn root(x: u64) -> u64
-    ensures { λ r. ⌜ r ≡ rootOf x ⌝ }
-{
-    let mut r: u64 = 0;
-    let mut left: u32 = 32;
-    while 0 < left {
-        left -= 1;
-        let odd = 2 * r + 1;
-        if odd * odd <= x >> (2 * left) {
-            r = odd;
-        } else {
-            r = 2 * r;
-        }
-    }
-    r
 }

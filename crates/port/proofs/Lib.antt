@@ -1,5 +1,4 @@
--- Laws of what stands at a port, and the register table.
+-- Laws of what a port holds, and the register table.
 pub mod Registers
-pub mod Writes
 pub mod Decided
 pub mod Table

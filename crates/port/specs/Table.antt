@@ -14,7 +14,8 @@ use Rattle.port.specs.declared.holds.Held.{Held}
 use Rattle.port.specs.Reading.{look}
 
 -- for any values of the registers
-module _ (va-rms ia-rms ia-peak watt-a va-a pfa ia-crest : ℤ) (pos-cnt neg-cnt plus-remainder minus-remainder : ℕ) (min1 min2 min3 min4 min5 min6 max1 max2 max3 max4 max5 max6 : ℤ) where
+module _ (va-rms ia-rms ia-peak watt-a va-a pfa ia-crest : ℤ) (pos-cnt neg-cnt plus-remainder minus-remainder : ℕ)
+    (min1 min2 min3 min4 min5 min6 max1 max2 max3 max4 max5 max6 : ℤ) where
   abbrev pub values : Registers
   values = record {
     vrms = va-rms;

@@ -1,3 +1,2 @@
-// What stands at a port: a desk where a card is made, and a hold from which reads are answered.
-pub mod desks;
+// What a port holds: the interval that reads are answered from.
 pub mod holds;

@@ -1,4 +1,5 @@
--- What it is that a contract determines its outcome, over the contract's own reading: a function's generated `Reads` has `Pre` and `Post`, and its `Kinds` has `ps` and `r`.
+-- What it is that a contract determines its outcome, over the contract's own reading: a function's generated `Reads` has `Pre` and `Post`,
+-- and its `Kinds` has `ps` and `r`.
 -- An outcome is a result and the last value of each `&mut` parameter (`Lasts`: for any other parameter it is `Unit`).
 use Prim.Native.Nat.{ℕ}
 use mathlib.Core.Path.{_≡_}

@@ -3,6 +3,7 @@ use Prim.Native.Nat.{ℕ, _+_, _-_, _*_, _≤_, _<_}
 use mathlib.Core.Path.{_≡_, refl, sym, ap, _∙_}
 use mathlib.Core.Bool.{Bool, true, false, _&&_, false≢true}
 use mathlib.Core.List.{List, [], _∷_}
+use native.Mathlib.Nat.{zero-add}
 use native.Mathlib.Omega.{arith}
 use lib.Dec.{leb, eqb}
 use lib.ListN.{length, take, drop, getD, List·getD-eq-default}
@@ -10,8 +11,8 @@ use borrow.Author.Tests.{leb-true, leb-false, le-leb, lt-leb, eqb-true}
 use Rattle.serial.specs.Every.{every}
 use Rattle.serial.specs.Places.{part, putWithin, tab}
 use Rattle.serial.proofs.Every.{and-left, and-right, every-at}
-use Rattle.serial.proofs.Places.{lent, put-none, put-fits}
-use Rattle.refusal.specs.Ascii.{ascii}
+use Rattle.serial.proofs.Places.{lent, put-none, put-fits, front-put}
+use Rattle.serial.specs.Ascii.{ascii}
 use Rattle.refusal.specs.Words.{table, wordsOf, writtenOf}
 
 -- two texts are the same
@@ -84,3 +85,11 @@ written-none t room l = simp (lt-leb (length t) room l)
 
 pub nothing-written : (b : List ℕ) → (0 ≡ writtenOf [] (length b)) × (b ≡ putWithin b 0 [])
 nothing-written b = (sym (written-all [] (length b) (omega arith)), sym (put-fits b [] 0 (omega arith) ∙ put-none b 0))
+
+-- the words, written into forty bytes and taken out again
+pub words-shown : (n : ℕ) (b : List ℕ) → length b ≡ 40 → take (writtenOf (wordsOf n) (length b)) (putWithin b 0 (wordsOf n)) ≡ wordsOf n
+words-shown n b l =
+    let w = wordsOf n in
+    let fits : 0 + length w ≤ length b = omega (arith, words-short n) in
+    ap (λ (k : ℕ). take k (putWithin b 0 w)) (written-all w (length b) (omega arith) ∙ sym (zero-add (length w)))
+    ∙ rw (put-fits b w 0 fits) (front-put b w 0 fits)

@@ -1,3 +1,2 @@
 -- The refusals' words, for people who meet a refusal's number.
-pub mod Ascii
 pub mod Words

@@ -5,7 +5,7 @@ use mathlib.Core.Bool.{cond}
 use mathlib.Core.List.{List, [], _∷_}
 use lib.Dec.{leb}
 use lib.ListN.{length, getD}
-use Rattle.refusal.specs.Ascii.{ascii}
+use Rattle.serial.specs.Ascii.{ascii}
 
 -- from 0, which is no refusal and has no words, to 21
 unfoldable pub table : List String

@@ -9,14 +9,14 @@ use lib.IntN.{ℤ, pos, negsuc, _*ℤ_}
 use mir.Syntax.{w32, w64}
 use mir.Val.{SFits, toZ}
 use mir.Facts.{toZ-pos}
-use Rattle.number.specs.Range.{heldWithin, clipped}
+use Rattle.range.specs.Range.{heldWithin, clipped}
 use Rattle.number.specs.Sign.{lessened}
-use Rattle.number.specs.Root.{Root, rootOf}
+use Rattle.root.specs.Root.{Root, rootOf}
 use Rattle.number.proofs.Signed.{up, dn, norm, ltZ-false}
 use Rattle.number.proofs.Fits.{within, size-of, size-nat, size-mul, size-fits}
-use Rattle.number.proofs.Ranges.{held-is, clipped-is}
+use Rattle.range.proofs.Ranges.{held-is, clipped-is}
 use Rattle.number.proofs.Signs.{lessened-is}
-use Rattle.number.proofs.Roots.{root-of}
+use Rattle.root.proofs.Roots.{root-of}
 use Rattle.rules.specs.Rules.{rms, squelched, apparentOf, crestOf}
 
 -- ---- the root of the mean square

@@ -4,8 +4,8 @@ use mathlib.Core.Path.{_≡_, ap}
 use native.Mathlib.Omega.{arith}
 use lib.IntN.{pos}
 use borrow.Author.Tests.{lt-ltb, le-ltb}
-use Rattle.number.specs.Root.{rootOf}
-use Rattle.number.proofs.Roots.{root-of}
+use Rattle.root.specs.Root.{rootOf}
+use Rattle.root.proofs.Roots.{root-of}
 use Rattle.card.specs.declared.Card.{Card}
 use Rattle.sample.specs.declared.Flow.{Flow}
 use Rattle.sample.specs.Fields.{irmsoffs, squelch}

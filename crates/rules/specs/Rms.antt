@@ -2,8 +2,8 @@
 use Prim.Native.Nat.{ℕ, _<_, _≤_}
 use mathlib.Core.Path.{_≡_}
 use lib.IntN.{ℤ, pos}
-use Rattle.number.specs.Range.{capped}
-use Rattle.number.specs.Root.{Root}
+use Rattle.range.specs.Range.{capped}
+use Rattle.root.specs.Root.{Root}
 
 -- VRMS of the mean square x: its root rounded down, at most 8,388,607
 pub record RootShown (x : ℕ) (shown : ℤ) : Type 0 where

@@ -3,10 +3,10 @@ use Prim.Native.Nat.{ℕ, _*_, _-_, _/_}
 use mathlib.Core.Bool.{cond}
 use lib.Dec.{eqb, ltb}
 use lib.IntN.{ℤ, pos, negsuc, _*ℤ_}
-use Rattle.number.specs.Range.{clipped, capped, heldWithin}
+use Rattle.range.specs.Range.{clipped, capped, heldWithin}
 use Rattle.number.specs.Sign.{lessened}
 use Rattle.number.specs.Rounding.{towardZero}
-use Rattle.number.specs.Root.{rootOf}
+use Rattle.root.specs.Root.{rootOf}
 
 -- mean square (sum / n, down), less a square and not below 0; its root rounded down, at most 8,388,607
 unfoldable pub rms : ℕ → ℕ → ℕ → ℕ

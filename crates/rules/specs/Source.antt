@@ -2,7 +2,7 @@
 use Prim.Native.Nat.{ℕ, _*_}
 use mathlib.Core.List.{List, [], _∷_}
 use lib.IntN.{ℤ, pos}
-use Rattle.number.specs.Range.{capped}
+use Rattle.range.specs.Range.{capped}
 use Rattle.card.specs.declared.Card.{Card}
 use Rattle.sample.specs.declared.Flow.{Flow}
 use Rattle.sample.specs.Fields.{irmsoffs, squelch, poffs}

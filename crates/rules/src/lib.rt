@@ -2,7 +2,7 @@
 ghost use mathlib.Core.Path.{_≡_};
 ghost use Prim.Native.Nat.{_≤_, _*_};
 ghost use lib.IntN.{natAbs};
-ghost use Rattle.number.specs.Range.{capped};
+ghost use Rattle.range.specs.Range.{capped};
 ghost use Rattle.rules.specs.Rules.{rms, squelched, activeOf, apparentOf, factorOf, crestOf};
 ghost use Rattle.rules.specs.Source.{vrmsOf, irmsOf, wattOf, ipeakOf, six, figuresOf};
 use card::Card;
@@ -25,7 +25,7 @@ fn root_mean_square(sum: u64, n: u32, less: u64) -> u32
     if mean <= less {
         return 0;
     }
-    number::cap(number::root(mean - less))
+    range::cap(root::root(mean - less))
 }
 
 fn squelch(level: i32, r: u32) -> u32
@@ -41,7 +41,7 @@ fn squelch(level: i32, r: u32) -> u32
 fn active(sum: i64, n: u32, poffs: i32) -> i32
     ensures { λ r. ⌜ r ≡ activeOf sum n (natAbs poffs) ⌝ }
 {
-    let p = number::clip(number::toward_zero(sum, n as u64 * 8388608));
+    let p = range::clip(number::toward_zero(sum, n as u64 * 8388608));
     number::lessen(p as i64, number::size(poffs as i64)) as i32
 }
 
@@ -58,7 +58,7 @@ fn factor(p: i32, s: u32) -> i32
         return 0;
     }
     let q = number::toward_zero(p as i64 * 4194304, s as u64);
-    number::held_within(q, -4194304, 4194304) as i32
+    range::held_within(q, -4194304, 4194304) as i32
 }
 
 fn crest(peak: u32, irms: u32) -> u32
@@ -67,7 +67,7 @@ fn crest(peak: u32, irms: u32) -> u32
     if irms == 0 {
         return 0;
     }
-    number::cap((peak as u64) * 65536 / (irms as u64))
+    range::cap((peak as u64) * 65536 / (irms as u64))
 }
 
 // VRMS, of the sum of the voltage squares.
@@ -98,7 +98,7 @@ fn watt(c: Card, f: Flow, n: u32) -> i32
 fn ipeak(f: Flow) -> u32
     ensures { λ r. ⌜ r ≡ ipeakOf f ⌝ }
 {
-    number::cap(f.peak as u64)
+    range::cap(f.peak as u64)
 }
 
 // The six figures in the table's order. What is at most 8,388,607 fits a register.
@@ -119,5 +119,5 @@ pub fn figures(c: Card, v: u32, f: Flow, n: u32) -> [i32; 6]
     let i = irms(c, f, n);
     let k = ipeak(f);
     let p = watt(c, f, n);
-    lay(number::cap(v as u64), i, k, p)
+    lay(range::cap(v as u64), i, k, p)
 }

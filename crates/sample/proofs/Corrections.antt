@@ -11,7 +11,7 @@ use mir.Facts.{toZ-pos}
 use Rattle.number.specs.Rounding.{floorDiv}
 use Rattle.number.proofs.Signed.{up, dn, signs, neg-is, add-is, diff-is}
 use Rattle.number.proofs.Fits.{Size, size-of, size-nat, size-add, size-sub, size-mul, size-fits, ranges}
-use Rattle.number.proofs.Ranges.{clipped-mag}
+use Rattle.range.proofs.Ranges.{clipped-mag}
 use Rattle.sample.specs.Sample.{corrected, mixed}
 
 pub corrected-in : (raw offset gain : ℤ) → mag (corrected raw offset gain) < 8388608

@@ -7,12 +7,10 @@ use Rattle.sample.proofs.mix.Kinds as mix-k
 use Rattle.sample.proofs.mix.Reads as mix
 use Rattle.sample.proofs.all_in_range.Kinds as all-in-range-k
 use Rattle.sample.proofs.all_in_range.Reads as all-in-range
-use Rattle.sample.proofs.samples.phase_in_range.Kinds as phase-in-range-k
-use Rattle.sample.proofs.samples.phase_in_range.Reads as phase-in-range
+use Rattle.sample.proofs.phase_in_range.Kinds as phase-in-range-k
+use Rattle.sample.proofs.phase_in_range.Reads as phase-in-range
 use Rattle.sample.proofs.Sums.of_at_most.Kinds as of-at-most-k
 use Rattle.sample.proofs.Sums.of_at_most.Reads as of-at-most
-use Rattle.sample.proofs.Sums.with_samples.Kinds as with-samples-k
-use Rattle.sample.proofs.Sums.with_samples.Reads as with-samples
 use Rattle.sample.proofs.Sums.none.Kinds as none-k
 use Rattle.sample.proofs.Sums.none.Reads as none
 use Rattle.sample.proofs.Sums.emptied.Kinds as emptied-k
@@ -38,6 +36,3 @@ phase-in-range-decided = record { always = λ κs a. tt; determined = λ κs a p
 
 pub of-at-most-decided : Decided 0 of-at-most-k.ps of-at-most-k.r of-at-most.Pre of-at-most.Post
 of-at-most-decided = record { always = λ κs a. tt; determined = λ κs a p z z′ ws ws′ q q′. (q ∙ sym q′, refl) }
-
-pub with-samples-decided : Decided 2 with-samples-k.ps with-samples-k.r with-samples.Pre with-samples.Post
-with-samples-decided = record { always = λ κs a. tt; determined = λ κs a p z z′ ws ws′ q q′. (q ∙ sym q′, refl) }

@@ -7,7 +7,7 @@ use native.Mathlib.Numerals.{add-one}
 use lib.IntN.{ℤ, pos}
 use lib.ListN.{length, getD, drop, drop-of-length-le}
 use lib.Seq.{drop-cons}
-use Rattle.number.specs.Range.{in24}
+use Rattle.range.specs.Range.{in24}
 use Rattle.sample.specs.Sample.{every24}
 
 pub every-more : (a : List ℤ) (k : ℕ) → k < length a → every24 (drop k a) ≡ in24 (getD a k (pos 0)) && every24 (drop (k + 1) a)

@@ -9,7 +9,7 @@ use mir.Syntax.{w64}
 use mir.Val.{SFits}
 use Rattle.number.proofs.Signed.{add-is, abs-is}
 use Rattle.number.proofs.Fits.{within, Size, size-mul}
-use Rattle.number.proofs.Ranges.{size24}
+use Rattle.range.proofs.Ranges.{size24}
 use Rattle.sample.specs.declared.Flow.{Flow}
 use Rattle.sample.specs.declared.Sums.{Sums}
 use Rattle.number.specs.Sign.{squareOf}
@@ -20,7 +20,6 @@ use Rattle.sample.proofs.Corrections.{corrected-in, mixed-in}
 use mathlib.Core.List.{List, [], _∷_}
 use lib.ListN.{length}
 use Rattle.sample.specs.Inside.{Flowing, Room, Spare, Phased}
-use Rattle.sample.specs.Inside.{probeOf}
 use Rattle.card.specs.declared.Card.{Card}
 
 -- squares and products of numbers of the range
@@ -65,10 +64,6 @@ spare-more s v i raw k h p q = record { had = h .had + 1; few = omega (arith, h 
 
 pub spare-at : (s : Sums) (j k : ℕ) → j ≡ k → Spare s j → Spare s k
 spare-at s j k e h = rw e at h
-
-pub phase-most : (c : Card) → Phased c → probeOf c .phase ≤ 4095
-unfolding probeOf
-phase-most c h = h .high
 
 -- ---- by a card whose PHASE is in its range
 voltage-in : (c : Card) (x : ℤ) → mag (voltage c x) < 8388608

@@ -1,18 +1,14 @@
 -- The samples of two slices: one after another, and a part of them.
-use Prim.Native.Nat.{ℕ, zero, suc, _+_, _-_, _≤_, _<_}
+use Prim.Native.Nat.{ℕ, zero, suc, _<_}
 use mathlib.Core.Path.{_≡_, refl, ap, _∙_}
 use mathlib.Core.List.{List, [], _∷_}
 use native.Mathlib.Nat.{le-of-suc-le-suc, not-suc-le-zero, suc-ne-zero}
-use native.Mathlib.Numerals.{add-one}
 use native.Mathlib.Omega.{arith}
-use lib.ListN.{length, getD, take, drop, drop-of-length-le}
+use lib.ListN.{length, getD, take, drop}
 use lib.IntN.{ℤ, pos}
-use Rattle.sample.specs.Sample.{voltage, current, phased}
 use Rattle.card.specs.declared.Card.{Card}
 use Rattle.sample.specs.declared.Sums.{Sums}
-use Rattle.sample.specs.Sums.{Sample, summed, added, addedAll, previous}
-use Rattle.sample.specs.declared.samples.Probe.{Probe}
-use Rattle.sample.specs.Inside.{probeOf, probed, probedAll}
+use Rattle.sample.specs.Sums.{Sample, summed, addedAll, previous}
 use Rattle.sample.specs.Sums.{samplesIn}
 
 pub samples-long : (vs is : List ℤ) → length vs ≡ length is → length (samplesIn vs is) ≡ length vs
@@ -28,26 +24,7 @@ samples-at (v ∷ vs) [] k h e = absurd (suc-ne-zero (length vs) e)
 samples-at (v ∷ vs) (i ∷ is) zero h e = refl
 samples-at (v ∷ vs) (i ∷ is) (suc k) h e = samples-at vs is k (le-of-suc-le-suc h) (omega arith)
 
--- a turn of the loop
-pub probe-more : (p : Probe) (s : Sums) (vs is : List ℤ) (k : ℕ) → k < length vs → length vs ≡ length is →
-    probedAll p s (drop k (samplesIn vs is)) ≡ probedAll p (probed p s (getD vs k (pos 0), getD is k (pos 0))) (drop (k + 1) (samplesIn vs is))
-unfolding probedAll
-probe-more p s vs is k h e = rw (samples-at vs is k h e, add-one)
-
-pub probe-end : (p : Probe) (s : Sums) (vs is : List ℤ) (k : ℕ) → length vs ≤ k → length vs ≡ length is → probedAll p s (drop k (samplesIn vs is)) ≡ s
-unfolding probedAll
-probe-end p s vs is k h e = rw (drop-of-length-le (samplesIn vs is) {i = k} (omega (arith, samples-long vs is e)))
-
--- what the card does, taken out once
-probe-one : (c : Card) (s : Sums) (x : Sample) → probed (probeOf c) s x ≡ added c s (x .0) (x .1)
-unfolding probed probeOf added voltage current phased
-probe-one c s x = refl
-
-pub probe-is : (c : Card) (s : Sums) (xs : List Sample) → probedAll (probeOf c) s xs ≡ addedAll c s xs
-unfolding probedAll addedAll
-probe-is c s [] = refl
-probe-is c s (x ∷ xs) = ap (λ (t : Sums). probedAll (probeOf c) t xs) (probe-one c s x) ∙ probe-is c (added c s (x .0) (x .1)) xs
-
+-- the raw current that is kept is the previous one of the next sample
 pub previous-after : (s : Sums) (v i raw x : ℤ) → previous (summed s v i raw) x ≡ raw
 unfolding previous summed
 previous-after s v i raw x = refl

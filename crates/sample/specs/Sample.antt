@@ -3,7 +3,7 @@ use Prim.Native.Nat.{ℕ}
 use mathlib.Core.Bool.{Bool, true, _&&_}
 use mathlib.Core.List.{List, [], _∷_}
 use lib.IntN.{ℤ, pos, _+ℤ_, _-ℤ_, _*ℤ_}
-use Rattle.number.specs.Range.{in24, clipped}
+use Rattle.range.specs.Range.{in24, clipped}
 use Rattle.number.specs.Rounding.{floorDiv}
 use Rattle.card.specs.declared.Card.{Card}
 use Rattle.sample.specs.Fields.{voffs, ioffs, vgain, igain, phase}

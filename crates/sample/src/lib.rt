@@ -1,15 +1,15 @@
 // Samples: what a card makes of a raw one, and what is kept of the running interval's.
 ghost use mathlib.Core.Path.{_≡_};
 ghost use Rattle.sample.specs.Sample.{corrected, mixed, every24};
-ghost use Rattle.sample.specs.Sums.{emptied, noSums};
-
-pub mod samples;
+ghost use Rattle.sample.specs.Sums.{emptied, noSums, ofAtMost, phaseInRange};
+use card::Card;
+use card::names::PHASE;
 
 // (raw - offset) times gain / 2^21, rounded down and clipped. No i32 makes it overflow.
 pub fn correct(raw: i32, offset: i32, gain: i32) -> i32
     ensures { λ r. ⌜ r ≡ corrected raw offset gain ⌝ }
 {
-    number::clip(number::floor_div((raw as i64 - offset as i64) * gain as i64, 21))
+    range::clip(number::floor_div((raw as i64 - offset as i64) * gain as i64, 21))
 }
 
 // ((4,096 - phase) times now + phase times previous) / 4,096, rounded down.
@@ -27,10 +27,18 @@ pub fn all_in_range(a: &[i32]) -> bool
     let mut ok = true;
     let mut k: usize = 0;
     while k < a.len() {
-        ok = ok & number::in_range(a[k]);
+        ok = ok & range::in_range(a[k]);
         k += 1;
     }
     ok
+}
+
+// Whether a card's PHASE, its field 5, is in its range.
+pub fn phase_in_range(c: Card) -> bool
+    ensures { λ r. ⌜ r ≡ phaseInRange c ⌝ }
+{
+    let f = c.fields;
+    card::field_in_range(5, f[PHASE] as i64)
 }
 
 // Of one current source: the sum of its squares and of its products with the voltage, and its largest size.
@@ -79,5 +87,18 @@ impl Sums {
             seen: self.seen,
             raw: self.raw,
         }
+    }
+
+    // Whether these can be the sums of at most n samples: then none can pass 64 bits.
+    pub fn of_at_most(self, n: u32) -> bool
+        ensures { λ r. ⌜ r ≡ ofAtMost n self ⌝ }
+    {
+        if n <= 4096 {
+            let most = n as u64 * 70368744177664;
+            let f = self.flow;
+            let z = number::size(f.vi);
+            return (self.vv <= most) & (f.ii <= most) & (z <= most);
+        }
+        false
     }
 }

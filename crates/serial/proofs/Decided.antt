@@ -7,6 +7,8 @@ use Rattle.serial.proofs.is_serial.Kinds as is-serial-k
 use Rattle.serial.proofs.is_serial.Reads as is-serial
 use Rattle.serial.proofs.byte_at.Kinds as byte-at-k
 use Rattle.serial.proofs.byte_at.Reads as byte-at
+use Rattle.serial.proofs.same_text.Kinds as same-text-k
+use Rattle.serial.proofs.same_text.Reads as same-text
 use Rattle.serial.proofs.put_at.Kinds as put-at-k
 use Rattle.serial.proofs.put_at.Reads as put-at
 use Rattle.serial.proofs.Serial.none.Kinds as none-k
@@ -26,6 +28,9 @@ is-serial-decided = record { always = λ κs a. tt; determined = λ κs a p z z�
 
 pub byte-at-decided : Decided 1 byte-at-k.ps byte-at-k.r byte-at.Pre byte-at.Post
 byte-at-decided = record { always = λ κs a. tt; determined = λ κs a p z z′ ws ws′ q q′. (q ∙ sym q′, refl) }
+
+pub same-text-decided : Decided 2 same-text-k.ps same-text-k.r same-text.Pre same-text.Post
+same-text-decided = record { always = λ κs a. tt; determined = λ κs a p z z′ ws ws′ q q′. (q ∙ sym q′, refl) }
 
 -- the lent buffer: what is left in it is `ws .0`
 pub put-at-decided : Decided 2 put-at-k.ps put-at-k.r put-at.Pre put-at.Post

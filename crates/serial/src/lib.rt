@@ -2,6 +2,7 @@
 ghost use mathlib.Core.Path.{_≡_};
 ghost use Prim.Native.Nat.{_+_, _≤_};
 ghost use lib.ListN.{length, getD};
+ghost use Rattle.serial.specs.Texts.{sameText};
 ghost use Rattle.serial.specs.Places.{put, putWithin};
 ghost use Rattle.serial.specs.Serials.{isDigit, digitsOk, isSerial, noSerial, padded, serialOf, serialBytes, placeOk, holdsSerial};
 
@@ -46,6 +47,19 @@ pub fn byte_at(b: &[u8], k: usize) -> u8
     ensures { λ r. ⌜ r ≡ getD (now (b .entry)) k 0 ⌝ }
 {
     if k < b.len() { b[k] } else { 0 }
+}
+
+// Whether two texts are the same: as long, and byte for byte.
+pub fn same_text(a: &[u8], b: &[u8]) -> bool
+    ensures { λ r. ⌜ r ≡ sameText (now (a .entry)) (now (b .entry)) ⌝ }
+{
+    let mut same = a.len() == b.len();
+    let mut k = 0;
+    while k < a.len() {
+        same = same & (a[k] == byte_at(b, k));
+        k += 1;
+    }
+    same
 }
 
 // Copies xs into b at a place where there is room.

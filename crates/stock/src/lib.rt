@@ -2,14 +2,14 @@
 // length, or a refusal's number negated.
 pub mod read;
 
-use book::Found;
 use change::Changed;
+use lookup::Found;
 ghost use mathlib.Core.Path.{_≡_};
 ghost use mathlib.Core.List.{[], _∷_};
 ghost use Prim.Native.Nat.{_^_, _<_};
-ghost use Rattle.book.specs.Answers.{foundAnswer};
+ghost use Rattle.lookup.specs.Answers.{foundAnswer};
 ghost use Rattle.change.specs.Answers.{changedAnswer};
-ghost use Rattle.book.specs.Lookup.{lookupOf};
+ghost use Rattle.lookup.specs.Lookup.{lookupOf};
 ghost use Rattle.change.specs.Change.{addAnswer, added, withdrawAnswer, afterWithdraw};
 ghost use Rattle.stock.specs.Signed.{signed};
 
@@ -46,7 +46,7 @@ fn changed_number(answer: Changed) -> i64
 pub extern "C" fn stock_lookup(book: &[u8], serial: &[u8]) -> i64
     ensures { λ r. ⌜ r ≡ signed (lookupOf (now (book .entry)) (now (serial .entry))) ⌝ }
 {
-    found_number(book::lookup(book, serial))
+    found_number(lookup::lookup(book, serial))
 }
 
 // Adds the card with a serial and the eight fields; the length of the new book.

@@ -5,7 +5,7 @@ use lib.ListN.{length}
 use Rattle.serial.specs.Places.{tab}
 use native.Mathlib.Omega.{arith}
 use Rattle.serial.specs.Every.{every}
-use Rattle.refusal.specs.Ascii.{ascii}
+use Rattle.serial.specs.Ascii.{ascii}
 use Rattle.refusal.specs.Words.{table, wordsOf}
 use Rattle.refusal.proofs.Rows.{lengthOk, length-is}
 use borrow.Author.Needs.{needs}

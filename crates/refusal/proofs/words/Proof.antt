@@ -7,7 +7,7 @@ use denote.Ref.{now}
 use native.Mathlib.Omega.{arith}
 use Rattle.serial.specs.Every.{every}
 use Rattle.serial.specs.Places.{part, putWithin}
-use Rattle.refusal.specs.Ascii.{ascii}
+use Rattle.serial.specs.Ascii.{ascii}
 use Rattle.refusal.specs.Words.{table, wordsOf, writtenOf}
 use Rattle.refusal.proofs.Rows.{alike, rowOk, text-is, no-words, nothing-written}
 use borrow.Author.Needs.{needs}

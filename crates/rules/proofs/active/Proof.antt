@@ -6,7 +6,7 @@ use lib.IntN.{natAbs}
 use mir.Syntax.{w32, w64}
 use mir.Val.{SFits}
 use mir.Facts.{toZ-ofZ}
-use Rattle.number.specs.Range.{clipped}
+use Rattle.range.specs.Range.{clipped}
 use Rattle.number.specs.Sign.{lessened}
 use Rattle.number.specs.Rounding.{towardZero}
 use Rattle.number.proofs.Fits.{ranges, widen, answer}

@@ -7,7 +7,7 @@ use lib.IntN.{pos, negsuc, _*ℤ_}
 use mir.Syntax.{w32, w64}
 use mir.Val.{SFits}
 use mir.Facts.{toZ-ofZ}
-use Rattle.number.specs.Range.{heldWithin}
+use Rattle.range.specs.Range.{heldWithin}
 use Rattle.number.specs.Rounding.{towardZero}
 use Rattle.number.proofs.Fits.{ranges, widen, within, answer}
 use Rattle.rules.specs.Rules.{factorOf}

@@ -1,7 +1,7 @@
 -- `correct` meets its contract.
 use mathlib.Core.Path.{_∙_, ap}
 use mir.Syntax.{w32, w64}
-use Rattle.number.specs.Range.{clipped}
+use Rattle.range.specs.Range.{clipped}
 use Rattle.number.proofs.Fits.{ranges, answer}
 use Rattle.sample.specs.Sample.{corrected}
 use borrow.Author.Needs.{needs}

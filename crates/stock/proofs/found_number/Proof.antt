@@ -5,8 +5,8 @@ use native.Mathlib.Omega.{arith}
 use lib.IntN.{ℤ}
 use mir.Syntax.{w64}
 use mir.Facts.{toZ-pos}
-use Rattle.book.specs.Answers.{foundAnswer}
-use Rattle.book.specs.declared.Found.{Found}
+use Rattle.lookup.specs.Answers.{foundAnswer}
+use Rattle.lookup.specs.declared.Found.{Found}
 use Rattle.stock.specs.Signed.{signed}
 use borrow.Author.Needs.{needs}
 use Rattle.stock.proofs.found_number.Statement.{statement}

@@ -5,7 +5,7 @@ use denote.Ref.{now}
 use mir.Syntax.{w64}
 use mir.Facts.{toZ-ofZ}
 use Rattle.book.specs.Answers.{Answer}
-use Rattle.book.proofs.Answers.{lookup-within}
+use Rattle.lookup.proofs.Answers.{lookup-within}
 use Rattle.stock.specs.Signed.{signed}
 use borrow.Author.Needs.{needs}
 use Rattle.stock.proofs.stock_lookup.Statement.{statement}

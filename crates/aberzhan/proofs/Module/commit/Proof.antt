@@ -3,9 +3,9 @@ use mathlib.Core.Path.{_≡_, sym, ap, _∙_}
 use mathlib.Core.Bool.{true, false}
 use lib.IntN.{ℤ}
 use mir.Facts.{toZ-ofZ}
-use Rattle.port.specs.declared.desks.Desk.{Desk}
-use Rattle.port.specs.Desks.{finished}
-use Rattle.port.specs.Answers.{finishing}
+use Rattle.desk.specs.declared.Desk.{Desk}
+use Rattle.desk.specs.Desks.{finished}
+use Rattle.desk.specs.Answers.{finishing}
 use Rattle.aberzhan.specs.Inside.{isPort, deskAt, committed}
 use Rattle.aberzhan.proofs.Steps.{commits, commit-8}
 use borrow.Author.Needs.{needs}

@@ -3,9 +3,9 @@ use mathlib.Core.Path.{_≡_, sym, ap, _∙_}
 use mathlib.Core.Bool.{true, false}
 use lib.IntN.{ℤ}
 use mir.Facts.{toZ-ofZ}
-use Rattle.port.specs.declared.desks.Desk.{Desk}
-use Rattle.port.specs.Desks.{opening}
-use Rattle.port.specs.Answers.{desked}
+use Rattle.desk.specs.declared.Desk.{Desk}
+use Rattle.desk.specs.Desks.{opening}
+use Rattle.desk.specs.Answers.{desked}
 use Rattle.aberzhan.specs.Inside.{isPort, deskAt, deskDid}
 use Rattle.aberzhan.proofs.Steps.{opens, open-8}
 use denote.Ref.{now}

@@ -1,18 +1,22 @@
--- `held_line` makes the line of an accepted hold.
-use mathlib.Core.List.{[], _∷_, _++_}
+-- `held_line` is the line of an accepted hold.
+use Rattle.console.proofs.AnswerLaws.{and-then}
 use native.Mathlib.Omega.{arith}
-use Rattle.decimal.specs.Decimals.{decimal}
-use Rattle.console.specs.Answers.{okWord, digitsText, heldLine}
-use Rattle.console.proofs.LineLaws.{made-first, made-more, count-text}
+use Rattle.number.proofs.Fits.{read32}
+use Rattle.decimal.specs.Decimals.{decimal, signedDecimal}
+use Rattle.serial.specs.Ascii.{ascii}
+use Rattle.console.specs.Answers.{end, digitsText, heldLine}
+use mathlib.Core.List.{_++_}
+use denote.Ref.{now}
+use lib.ListN.{take}
 use borrow.Author.Needs.{needs}
 use Rattle.console.proofs.answers.held_line.Statement.{statement}
 use Rattle.console.proofs.answers.held_line.Tie as tie
 
-slice-aggregate-put-text : tie.Need-slice-aggregate-put-text
-slice-aggregate-put-text c = search needs
+slice-aggregate-put : tie.Need-slice-aggregate-put
+slice-aggregate-put c = search needs
 
-put-text-requires : tie.Need-put-text-requires
-put-text-requires c κs = search needs
+put-requires : tie.Need-put-requires
+put-requires c κs = search needs
 
 cast-put-number : tie.Need-cast-put-number
 cast-put-number c = search needs
@@ -20,57 +24,51 @@ cast-put-number c = search needs
 put-number-requires : tie.Need-put-number-requires
 put-number-requires c κs = search needs
 
-slice-aggregate-put-text-2 : tie.Need-slice-aggregate-put-text-2
-slice-aggregate-put-text-2 c = search needs
+slice-aggregate-put-2 : tie.Need-slice-aggregate-put-2
+slice-aggregate-put-2 c = search needs
 
-put-text-requires-2 : tie.Need-put-text-requires-2
-put-text-requires-2 c κs = search needs
+put-requires-2 : tie.Need-put-requires-2
+put-requires-2 c κs = search needs
 
 put-digits-requires : tie.Need-put-digits-requires
 put-digits-requires c κs = search needs
 
-slice-aggregate-put-text-3 : tie.Need-slice-aggregate-put-text-3
-slice-aggregate-put-text-3 c = search needs
+slice-aggregate-put-3 : tie.Need-slice-aggregate-put-3
+slice-aggregate-put-3 c = search needs
 
-put-text-requires-3 : tie.Need-put-text-requires-3
-put-text-requires-3 c κs = search needs
+put-requires-3 : tie.Need-put-requires-3
+put-requires-3 c κs = search needs
+
+same-length : tie.Need-same-length
+same-length c = search needs
 
 returns : tie.Need-returns
-unfolding heldLine okWord
+unfolding heldLine ascii signedDecimal
 returns c =
-    let d = c .before .before .before in
-    let b = d .before .before in
-    let m = b .before .before .before in
-    let a = m .before .before in
-    let s = a .before .before .before in
-    let e = a .put-text .ensures in
-    let n = rw (count-text (s .args .number) (s .fits .number)) at (m .put-number .ensures) in
-    let f = b .put-text2 .ensures in
-    let h = d .put-digits .ensures in
-    let g = c .put-text3 .ensures in
-    let number = decimal (s .args .number) in
-    let digits = digitsText (s .args .serial) in
-    let made =
-    made-more (okWord ++ number ++ (32 ∷ []) ++ digits) (10 ∷ [])
-    (made-more (okWord ++ number ++ (32 ∷ [])) digits
-    (made-more (okWord ++ number) (32 ∷ [])
-    (made-more okWord number (made-first okWord (e .0) (e .1)) (n .0) (n .1) (omega (arith, e .0, e .2, n .2)))
-    (f .0) (f .1) (omega (arith, e .0, e .2, n .0, n .2)))
-    (h .0) (h .1) (omega (arith, e .0, e .2, n .0, n .2, f .0, h .2)))
-    (g .0) (g .1) (omega (arith, e .0, e .2, n .0, n .2, f .0, h .0, h .2)) in
-    (made .place, made .line, omega (arith, e .0, n .0, n .2, f .0, h .0, h .2, g .0))
+    let s = c .before .before .before .before .before .before .before .before .before .before .before .before .before .before .before .before .before .before .before .before .before .before .before .before in
+    let a = c .before .before .before .before .before .before .before .before .before .before .before .before .before .before .before .before .before .before .before .before .put .ensures in
+    let b = rw (read32 (s .args .number) (s .fits .number)) at (c .before .before .before .before .before .before .before .before .before .before .before .before .before .before .before .before .put-number .ensures) in
+    let d = c .before .before .before .before .before .before .before .before .before .before .before .put2 .ensures in
+    let e = c .before .before .before .before .before .before .before .put-digits .ensures in
+    let f = c .before .before .put3 .ensures in (
+      and-then (take (s .args .used) (now (s .args .out))) (ascii "ok " ++ decimal (s .args .number) ++ ascii " " ++ digitsText (s .args .serial)) end
+          (and-then (take (s .args .used) (now (s .args .out))) (ascii "ok " ++ decimal (s .args .number) ++ ascii " ") (digitsText (s .args .serial))
+          (and-then (take (s .args .used) (now (s .args .out))) (ascii "ok " ++ decimal (s .args .number)) (ascii " ") (and-then (take (s .args .used) (now (s .args .out))) (ascii "ok ") (decimal (s .args .number)) (a .0) (b .0)) (d .0)) (e .0)) (f .0),
+      omega (arith, a .1, b .1, d .1, e .1, f .1),
+    )
 
 pub held-line-spec : {M : Type 1} → statement M
 held-line-spec =
     tie.close
     (tie.spec
-    slice-aggregate-put-text
-    put-text-requires
+    slice-aggregate-put
+    put-requires
     cast-put-number
     put-number-requires
-    slice-aggregate-put-text-2
-    put-text-requires-2
+    slice-aggregate-put-2
+    put-requires-2
     put-digits-requires
-    slice-aggregate-put-text-3
-    put-text-requires-3
+    slice-aggregate-put-3
+    put-requires-3
+    same-length
     returns)

@@ -8,6 +8,9 @@ use Rattle.console.proofs.input.read_some.Tie as tie
 read-requires : tie.Need-read-requires
 read-requires c κs = search needs
 
+tell-failure-requires : tie.Need-tell-failure-requires
+tell-failure-requires c κs = search needs
+
 count-requires : tie.Need-count-requires
 count-requires c κs = search needs
 
@@ -30,7 +33,7 @@ write-out-requires : tie.Need-write-out-requires
 write-out-requires c κs = search needs
 
 same-length-2 : tie.Need-same-length-2
-same-length-2 c = c .before .before .before .before .before .before .before .before .before .before .before .before .before .before .before .before .before .before .before .read .kept .1 .0
+same-length-2 c = c .before .before .before .before .before .before .before .before .before .before .before .before .before .before .before .before .before .before .before .before .read .kept .1 .0
 
 same-length-3 : tie.Need-same-length-3
 same-length-3 c = search needs
@@ -47,13 +50,13 @@ same-length-6 c = search needs
 returns-2 : tie.Need-returns-2
 returns-2 c =
     let t = c .before .before .before .before .before .before .before .before in
-    let r = t .before .before .before .before .before .before .before .before .before .before .before .before .before .before .before .before .pre in
+    let r = c .before .before .before .before .before .before .before .before .before .before .before .before .before .before .before .before .before .before .before .before .before .before .before .before .before .pre in
     let e = t .take-part .ensures .1 in
     let k = t .take-part .kept .1 .1 in
     rw (c .write-out .ensures)
     (record {
       kept = omega (arith, e .0, k .0, r .line-room);
-      used = omega (arith, r .used, k .1 .1 .1 .0, t .before .before .before .before .before .before .before .before .before .before .before .read .kept .1 .0);
+      used = omega (arith, r .used, k .1 .1 .1 .0, c .before .before .before .before .before .before .before .before .before .before .before .before .before .before .before .before .before .before .before .before .read .kept .1 .0);
       line-room = k .0 ∙ r .line-room;
       v-room = k .1 .0 ∙ r .v-room;
       i-room = k .1 .1 .0 ∙ r .i-room;
@@ -64,6 +67,7 @@ read-some-spec =
     tie.close
     (tie.spec
     read-requires
+    tell-failure-requires
     count-requires
     same-length
     returns

@@ -1,101 +1,102 @@
 -- `take_samples` takes samples until another thing comes or the buffer is full.
-use borrow.Author.Needs.{needs}
-use Prim.Native.Nat.{_-_, _≤_}
+use Prim.Native.Nat.{_-_, _≤_, _<_}
 use mathlib.Core.Path.{_≡_, refl, sym, ap, _∙_}
 use native.Mathlib.Omega.{arith}
-use lib.ListN.{length, drop, length-set, length-drop}
+use lib.ListN.{length, drop, getD, length-set, length-drop}
 use mir.Syntax.{w32, w64}
 use mir.Val.{SFits}
 use mir.Facts.{toZ-ofZ}
 use Rattle.console.specs.declared.items.Next.the-variants as next
-use Rattle.console.specs.Items.{nextOf, sampleOf}
+use Rattle.console.specs.declared.words.Kind.{Kind}
+use Rattle.console.specs.declared.words.Kind.the-variants as kind
+use Rattle.console.specs.Items.{nextOf, samples}
 use Rattle.console.proofs.TextLaws.{rest-of}
-use Rattle.console.proofs.ItemLaws.{sample-within, sample-small, small-fits, Going, begun, further, ended, full, another}
+use Rattle.console.proofs.ItemLaws.{next-within, sample-fits, samples-long, all-samples, Going, begun, further, ended, full, another}
+use borrow.Author.Needs.{needs}
 use Rattle.console.proofs.items.take_samples.Statement.{statement}
 use Rattle.console.proofs.items.take_samples.Tie as tie
 
 abbrev Inv-loop : tie.InvT-loop
-Inv-loop text into₀ count₀ at₀ into count at = Going sampleOf (length into₀) text into count at
+Inv-loop text into₀ count₀ at₀ into count at = Going (samples (length into₀)) text into count at × (length into ≡ length into₀)
 
 abbrev μ-loop : tie.MeasureT-loop
 μ-loop text into₀ count₀ at₀ into count at = length into - count
 
-loop-holds : tie.Need-loop-holds Inv-loop μ-loop
-loop-holds c = begun _ _ _ _ refl
+below : (c : tie.In-loop Inv-loop μ-loop) → c .before .loop .count < length (samples (length (c .before .before .before .args .into .now)))
+below c = omega (arith, c .loop-test .taken, c .before .loop .inv .1, samples-long (length (c .before .before .before .args .into .now)))
 
-sub-next-sample : tie.Need-sub-next-sample Inv-loop μ-loop
-sub-next-sample c = c .before .loop .inv .inside
+sampled : (c : tie.At-loop Inv-loop μ-loop) →
+    nextOf (getD (samples (length (c .before .before .args .into .now))) (c .loop .count) kind.Sample) (drop (c .loop .at) (c .before .before .args .text .now)) ≡ nextOf kind.Sample (drop (c .loop .at) (c .before .before .args .text .now))
+sampled c = ap (λ (k : Kind). nextOf k (drop (c .loop .at) (c .before .before .args .text .now))) (all-samples (length (c .before .before .args .into .now)) (c .loop .count))
 
-part-next-sample-start : tie.Need-part-next-sample-start Inv-loop μ-loop
-part-next-sample-start c = c .before .loop .inv .inside
+rest : (c : tie.After-next-item Inv-loop μ-loop) → c .next-item .result ≡ nextOf kind.Sample (drop (c .before .before .before .loop .at) (c .before .before .before .before .before .args .text .now))
+rest c = c .next-item .ensures ∙ ap (nextOf kind.Sample) (rest-of (c .before .before .before .loop .at) (c .before .before .before .before .before .args .text .now))
 
-part-next-sample-end : tie.Need-part-next-sample-end Inv-loop μ-loop
-part-next-sample-end c = search needs
-
-next-sample-requires : tie.Need-next-sample-requires Inv-loop μ-loop
-next-sample-requires c κs = tt
-
--- what stands behind what was taken
-rest :
-    (c : tie.After-next-sample Inv-loop μ-loop) →
-    c .next-sample .result ≡ sampleOf (drop (c .before .before .before .loop .at) (c .before .before .before .before .before .args .text .now))
-rest c = c .next-sample .ensures ∙ ap sampleOf (rest-of (c .before .before .before .loop .at) (c .before .before .before .before .before .args .text .now))
-
-enum-known-x : tie.Need-enum-known-x Inv-loop μ-loop
-enum-known-x c = search needs
-
-found :
-    (c : tie.After-known-told Inv-loop μ-loop) →
-    sampleOf (drop (c .before .before .before .before .before .before .loop .at) (c .before .before .before .before .before .before .before .before .args .text .now)) ≡ next.Number (c .before .x .given .0 .0) (c .before .x .given .0 .1 .0)
+found : (c : tie.After-known-told Inv-loop μ-loop) → nextOf kind.Sample (drop (c .before .before .before .before .before .before .loop .at) (c .before .before .before .before .before .before .before .before .args .text .now)) ≡ next.Number (c .before .x .given .0 .0) (c .before .x .given .0 .1 .0)
 found c = sym (rest (c .before .before .before)) ∙ c .before .x .given .1
 
 short : (c : tie.After-known-told Inv-loop μ-loop) → c .before .x .given .0 .1 .0 ≤ length (drop (c .before .before .before .before .before .before .loop .at) (c .before .before .before .before .before .before .before .before .args .text .now))
-short c = sample-within _ _ _ (found c)
+short c = next-within _ _ _ _ (found c)
 
 fits : (c : tie.After-known-told Inv-loop μ-loop) → SFits w64 (c .before .x .given .0 .0)
 fits c = search needs
 
 narrow : (c : tie.After-known-told Inv-loop μ-loop) → SFits w32 (c .before .x .given .0 .0)
-unfolding sampleOf
-narrow c = small-fits _ (sample-small _ _ (nextOf (drop (c .before .before .before .before .before .before .loop .at) (c .before .before .before .before .before .before .before .before .args .text .now))) (found c))
+narrow c = sample-fits _ _ _ (found c)
+
+loop-holds : tie.Need-loop-holds Inv-loop μ-loop
+loop-holds c = (begun _ _ _ (omega (arith, samples-long (length (c .before .args .into .now)))), refl)
+
+sub-next-item : tie.Need-sub-next-item Inv-loop μ-loop
+sub-next-item c = c .before .loop .inv .0 .inside
+
+part-next-item-start : tie.Need-part-next-item-start Inv-loop μ-loop
+part-next-item-start c = c .before .loop .inv .0 .inside
+
+part-next-item-end : tie.Need-part-next-item-end Inv-loop μ-loop
+part-next-item-end c = search needs
+
+next-item-requires : tie.Need-next-item-requires Inv-loop μ-loop
+next-item-requires c κs = search needs
+
+enum-known-x : tie.Need-enum-known-x Inv-loop μ-loop
+enum-known-x c = search needs
 
 cast-into : tie.Need-cast-into Inv-loop μ-loop
 cast-into c = rw (toZ-ofZ (fits c)) (narrow c)
 
-mul-t14 : tie.Need-mul-t14 Inv-loop μ-loop
-mul-t14 c = omega (arith, c .before .before .before .before .before .before .before .before .good, c .before .before .before .before .before .before .loop .inv .long)
+mul-t15 : tie.Need-mul-t15 Inv-loop μ-loop
+mul-t15 c = omega (arith, c .before .before .before .before .before .before .before .before .good, c .before .before .before .before .before .before .loop .inv .1, below (c .before .before .before .before .before), samples-long (length (c .before .before .before .before .before .before .before .before .args .into .now)))
 
 slice-set-from-into : tie.Need-slice-set-from-into Inv-loop μ-loop
 slice-set-from-into c = omega arith
 
 add-count : tie.Need-add-count Inv-loop μ-loop
-add-count c = omega (arith, c .before .before .before .before .before .before .before .before .good, c .before .before .before .before .before .before .loop .inv .long)
+add-count c = omega (arith, c .before .before .before .before .before .before .before .before .good, below (c .before .before .before .before .before), samples-long (length (c .before .before .before .before .before .before .before .before .args .into .now)))
 
 add-at : tie.Need-add-at Inv-loop μ-loop
-add-at c = omega (arith, c .before .before .before .before .before .before .before .before .good, c .before .before .before .before .before .before .loop .inv .inside, short c, length-drop (c .before .before .before .before .before .before .loop .at) (c .before .before .before .before .before .before .before .before .args .text .now))
+add-at c = omega (arith, c .before .before .before .before .before .before .before .before .good, c .before .before .before .before .before .before .loop .inv .0 .inside, short c, length-drop (c .before .before .before .before .before .before .loop .at) (c .before .before .before .before .before .before .before .before .args .text .now))
 
 loop-less : tie.Need-loop-less Inv-loop μ-loop
 loop-less c = simp length-set (omega arith)
 
 loop-again : tie.Need-loop-again Inv-loop μ-loop
-loop-again c =
-    rw (toZ-ofZ (fits c), toZ-ofZ (narrow c))
-    (further _ _ _ _ _ _ (c .before .before .before .before .before .before .loop .inv) (rw (c .before .before .before .before .before .before .loop .inv .long) at (c .before .before .before .before .before .loop-test .taken)) _ _ (found c) (short c))
+loop-again c = (rw (toZ-ofZ (fits c), toZ-ofZ (narrow c)) (further _ _ kind.Sample _ _ _ (c .before .before .before .before .before .before .loop .inv .0) (below (c .before .before .before .before .before)) _ _ (sampled (c .before .before .before .before .before .before) ∙ found c)), simp length-set (c .before .before .before .before .before .before .loop .inv .1))
 
 enum-told : tie.Need-enum-told Inv-loop μ-loop
 enum-told c = search needs
 
 same-length : tie.Need-same-length Inv-loop μ-loop
-same-length c = c .before .before .before .before .before .loop .inv .long
+same-length c = c .before .before .before .before .before .loop .inv .1
 
 returns : tie.Need-returns Inv-loop μ-loop
-returns c = ended _ _ _ _ _ _ (c .before .before .before .before .before .loop .inv) (another _ _ _ (sym (rest (c .before .before)) ∙ c .enum-told .given .1))
+returns c = ended _ _ _ _ _ (c .before .before .before .before .before .loop .inv .0) (another _ _ kind.Sample _ _ _ (c .before .before .before .before .before .loop .inv .0) (below (c .before .before .before .before)) (sampled (c .before .before .before .before .before) ∙ sym (rest (c .before .before)) ∙ c .enum-told .given .1))
 
 same-length-2 : tie.Need-same-length-2 Inv-loop μ-loop
-same-length-2 c = c .before .loop .inv .long
+same-length-2 c = c .before .loop .inv .1
 
 returns-2 : tie.Need-returns-2 Inv-loop μ-loop
-returns-2 c = ended _ _ _ _ _ _ (c .before .loop .inv) (full _ _ _ _ (rw (c .before .loop .inv .long) at (c .loop-test .left)))
+returns-2 c = ended _ _ _ _ _ (c .before .loop .inv .0) (full (samples (length (c .before .before .before .args .into .now))) (c .before .loop .count) (drop (c .before .loop .at) (c .before .before .before .args .text .now)) (omega (arith, c .loop-test .left, c .before .loop .inv .1, samples-long (length (c .before .before .before .args .into .now)))))
 
 pub take-samples-spec : {M : Type 1} → statement M
 take-samples-spec =
@@ -104,13 +105,13 @@ take-samples-spec =
     Inv-loop
     μ-loop
     loop-holds
-    sub-next-sample
-    part-next-sample-start
-    part-next-sample-end
-    next-sample-requires
+    sub-next-item
+    part-next-item-start
+    part-next-item-end
+    next-item-requires
     enum-known-x
     cast-into
-    mul-t14
+    mul-t15
     slice-set-from-into
     add-count
     add-at

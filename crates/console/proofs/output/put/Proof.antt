@@ -1,4 +1,4 @@
--- `put` gathers a line behind those before it.
+-- `put` puts a text behind those before it.
 use mathlib.Core.Path.{refl, _∙_}
 use denote.Ref.{now}
 use Rattle.serial.proofs.Places.{put-fits, front-put}
@@ -19,8 +19,14 @@ returns : tie.Need-returns
 returns c =
     let s = c .before .before .before .before .before .before in
     let b = now (s .args .out) in
-    let line = now (s .args .line) in
-    (rw (c .before .before .put-at .ensures ∙ put-fits b line (s .args .used) (s .pre)) (front-put b line (s .args .used) (s .pre)), refl)
+    let text = now (s .args .text) in
+    (rw (c .before .before .put-at .ensures ∙ put-fits b text (s .args .used) (s .pre)) (front-put b text (s .args .used) (s .pre)), refl)
 
 pub put-spec : {M : Type 1} → statement M
-put-spec = tie.close (tie.spec put-at-requires add-result same-length returns)
+put-spec =
+    tie.close
+    (tie.spec
+    put-at-requires
+    add-result
+    same-length
+    returns)

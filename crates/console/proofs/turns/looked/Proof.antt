@@ -3,14 +3,19 @@ use borrow.Author.Needs.{needs}
 use Rattle.console.proofs.turns.looked.Statement.{statement}
 use Rattle.console.proofs.turns.looked.Tie as tie
 
-none-requires : tie.Need-none-requires
-none-requires c κs = search needs
-
 said-of-read-requires : tie.Need-said-of-read-requires
 said-of-read-requires c κs = search needs
 
+plain-requires : tie.Need-plain-requires
+plain-requires c κs = search needs
+
 returns : tie.Need-returns
-returns c = simp (c .said-of-read .ensures, c .before .none .ensures)
+returns c = simp (c .plain .ensures, c .before .said-of-read .ensures)
 
 pub looked-spec : {M : Type 1} → statement M
-looked-spec = tie.close (tie.spec none-requires said-of-read-requires returns)
+looked-spec =
+    tie.close
+    (tie.spec
+    said-of-read-requires
+    plain-requires
+    returns)

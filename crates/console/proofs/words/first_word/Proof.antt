@@ -1,140 +1,213 @@
--- `first_word` finds the word that a line begins with.
+-- `first_word` finds the word that an item is.
 use mathlib.Core.Path.{_≡_, sym, _∙_}
 use lib.ListN.{drop}
-use Rattle.console.specs.declared.words.Word.the-variants.{Start, Open, Write, Commit, Drop, Hold, Read, Block}
-use Rattle.console.specs.Words.{words, firstOf, wordOf}
+use denote.Ref.{now}
+use Rattle.serial.specs.Ascii.{ascii}
+use Rattle.serial.specs.Texts.{sameText}
+use Rattle.console.specs.declared.words.Word.the-variants.{Start, Open, Write, Commit, Drop, Hold, Read, Block, Cards, Help}
+use Rattle.console.specs.Words.{lettersOf, words, firstOf, wordOf}
 use Rattle.console.proofs.WordLaws.{chosen, passed}
 use borrow.Author.Needs.{needs}
 use Rattle.console.proofs.words.first_word.Statement.{statement}
 use Rattle.console.proofs.words.first_word.Tie as tie
 
-slice-aggregate-begins : tie.Need-slice-aggregate-begins
-slice-aggregate-begins c = search needs
+is-1 : (c : tie.After-same-text) → c .same-text .result ≡ sameText (lettersOf Start) (now (c .before .before .before .args .item))
+unfolding lettersOf ascii
+is-1 c = c .same-text .ensures
 
-begins-requires : tie.Need-begins-requires
-begins-requires c κs = search needs
+after-1 : (c : tie.Else1) → wordOf (now (c .before .before .before .before .args .item)) ≡ firstOf (drop 1 words) (now (c .before .before .before .before .args .item))
+unfolding wordOf
+after-1 c = passed Start (drop 1 words) (now (c .before .before .before .before .args .item)) (sym (is-1 (c .before)) ∙ c .if1 .left)
+
+is-2 : (c : tie.After-same-text2) → c .same-text2 .result ≡ sameText (lettersOf Open) (now (c .before .before .before .before .before .before .args .item))
+unfolding lettersOf ascii
+is-2 c = c .same-text2 .ensures
+
+after-2 : (c : tie.Else2) → wordOf (now (c .before .before .before .before .before .before .before .args .item)) ≡ firstOf (drop 2 words) (now (c .before .before .before .before .before .before .before .args .item))
+after-2 c = after-1 (c .before .before .before) ∙ passed Open (drop 2 words) (now (c .before .before .before .before .before .before .before .args .item)) (sym (is-2 (c .before)) ∙ c .if2 .left)
+
+is-3 : (c : tie.After-same-text3) → c .same-text3 .result ≡ sameText (lettersOf Write) (now (c .before .before .before .before .before .before .before .before .before .args .item))
+unfolding lettersOf ascii
+is-3 c = c .same-text3 .ensures
+
+after-3 : (c : tie.Else3) → wordOf (now (c .before .before .before .before .before .before .before .before .before .before .args .item)) ≡ firstOf (drop 3 words) (now (c .before .before .before .before .before .before .before .before .before .before .args .item))
+after-3 c = after-2 (c .before .before .before) ∙ passed Write (drop 3 words) (now (c .before .before .before .before .before .before .before .before .before .before .args .item)) (sym (is-3 (c .before)) ∙ c .if3 .left)
+
+is-4 : (c : tie.After-same-text4) → c .same-text4 .result ≡ sameText (lettersOf Commit) (now (c .before .before .before .before .before .before .before .before .before .before .before .before .args .item))
+unfolding lettersOf ascii
+is-4 c = c .same-text4 .ensures
+
+after-4 : (c : tie.Else4) → wordOf (now (c .before .before .before .before .before .before .before .before .before .before .before .before .before .args .item)) ≡ firstOf (drop 4 words) (now (c .before .before .before .before .before .before .before .before .before .before .before .before .before .args .item))
+after-4 c = after-3 (c .before .before .before) ∙ passed Commit (drop 4 words) (now (c .before .before .before .before .before .before .before .before .before .before .before .before .before .args .item)) (sym (is-4 (c .before)) ∙ c .if4 .left)
+
+is-5 : (c : tie.After-same-text5) → c .same-text5 .result ≡ sameText (lettersOf Drop) (now (c .before .before .before .before .before .before .before .before .before .before .before .before .before .before .before .args .item))
+unfolding lettersOf ascii
+is-5 c = c .same-text5 .ensures
+
+after-5 : (c : tie.Else5) → wordOf (now (c .before .before .before .before .before .before .before .before .before .before .before .before .before .before .before .before .args .item)) ≡ firstOf (drop 5 words) (now (c .before .before .before .before .before .before .before .before .before .before .before .before .before .before .before .before .args .item))
+after-5 c = after-4 (c .before .before .before) ∙ passed Drop (drop 5 words) (now (c .before .before .before .before .before .before .before .before .before .before .before .before .before .before .before .before .args .item)) (sym (is-5 (c .before)) ∙ c .if5 .left)
+
+is-6 : (c : tie.After-same-text6) → c .same-text6 .result ≡ sameText (lettersOf Hold) (now (c .before .before .before .before .before .before .before .before .before .before .before .before .before .before .before .before .before .before .args .item))
+unfolding lettersOf ascii
+is-6 c = c .same-text6 .ensures
+
+after-6 : (c : tie.Else6) → wordOf (now (c .before .before .before .before .before .before .before .before .before .before .before .before .before .before .before .before .before .before .before .args .item)) ≡ firstOf (drop 6 words) (now (c .before .before .before .before .before .before .before .before .before .before .before .before .before .before .before .before .before .before .before .args .item))
+after-6 c = after-5 (c .before .before .before) ∙ passed Hold (drop 6 words) (now (c .before .before .before .before .before .before .before .before .before .before .before .before .before .before .before .before .before .before .before .args .item)) (sym (is-6 (c .before)) ∙ c .if6 .left)
+
+is-7 : (c : tie.After-same-text7) → c .same-text7 .result ≡ sameText (lettersOf Read) (now (c .before .before .before .before .before .before .before .before .before .before .before .before .before .before .before .before .before .before .before .before .before .args .item))
+unfolding lettersOf ascii
+is-7 c = c .same-text7 .ensures
+
+after-7 : (c : tie.Else7) → wordOf (now (c .before .before .before .before .before .before .before .before .before .before .before .before .before .before .before .before .before .before .before .before .before .before .args .item)) ≡ firstOf (drop 7 words) (now (c .before .before .before .before .before .before .before .before .before .before .before .before .before .before .before .before .before .before .before .before .before .before .args .item))
+after-7 c = after-6 (c .before .before .before) ∙ passed Read (drop 7 words) (now (c .before .before .before .before .before .before .before .before .before .before .before .before .before .before .before .before .before .before .before .before .before .before .args .item)) (sym (is-7 (c .before)) ∙ c .if7 .left)
+
+is-8 : (c : tie.After-same-text8) → c .same-text8 .result ≡ sameText (lettersOf Block) (now (c .before .before .before .before .before .before .before .before .before .before .before .before .before .before .before .before .before .before .before .before .before .before .before .before .args .item))
+unfolding lettersOf ascii
+is-8 c = c .same-text8 .ensures
+
+after-8 : (c : tie.Else8) → wordOf (now (c .before .before .before .before .before .before .before .before .before .before .before .before .before .before .before .before .before .before .before .before .before .before .before .before .before .args .item)) ≡ firstOf (drop 8 words) (now (c .before .before .before .before .before .before .before .before .before .before .before .before .before .before .before .before .before .before .before .before .before .before .before .before .before .args .item))
+after-8 c = after-7 (c .before .before .before) ∙ passed Block (drop 8 words) (now (c .before .before .before .before .before .before .before .before .before .before .before .before .before .before .before .before .before .before .before .before .before .before .before .before .before .args .item)) (sym (is-8 (c .before)) ∙ c .if8 .left)
+
+is-9 : (c : tie.After-same-text9) → c .same-text9 .result ≡ sameText (lettersOf Cards) (now (c .before .before .before .before .before .before .before .before .before .before .before .before .before .before .before .before .before .before .before .before .before .before .before .before .before .before .before .args .item))
+unfolding lettersOf ascii
+is-9 c = c .same-text9 .ensures
+
+after-9 : (c : tie.Else9) → wordOf (now (c .before .before .before .before .before .before .before .before .before .before .before .before .before .before .before .before .before .before .before .before .before .before .before .before .before .before .before .before .args .item)) ≡ firstOf (drop 9 words) (now (c .before .before .before .before .before .before .before .before .before .before .before .before .before .before .before .before .before .before .before .before .before .before .before .before .before .before .before .before .args .item))
+after-9 c = after-8 (c .before .before .before) ∙ passed Cards (drop 9 words) (now (c .before .before .before .before .before .before .before .before .before .before .before .before .before .before .before .before .before .before .before .before .before .before .before .before .before .before .before .before .args .item)) (sym (is-9 (c .before)) ∙ c .if9 .left)
+
+is-10 : (c : tie.After-same-text10) → c .same-text10 .result ≡ sameText (lettersOf Help) (now (c .before .before .before .before .before .before .before .before .before .before .before .before .before .before .before .before .before .before .before .before .before .before .before .before .before .before .before .before .before .before .args .item))
+unfolding lettersOf ascii
+is-10 c = c .same-text10 .ensures
+
+after-10 : (c : tie.Else10) → wordOf (now (c .before .before .before .before .before .before .before .before .before .before .before .before .before .before .before .before .before .before .before .before .before .before .before .before .before .before .before .before .before .before .before .args .item)) ≡ firstOf (drop 10 words) (now (c .before .before .before .before .before .before .before .before .before .before .before .before .before .before .before .before .before .before .before .before .before .before .before .before .before .before .before .before .before .before .before .args .item))
+after-10 c = after-9 (c .before .before .before) ∙ passed Help (drop 10 words) (now (c .before .before .before .before .before .before .before .before .before .before .before .before .before .before .before .before .before .before .before .before .before .before .before .before .before .before .before .before .before .before .before .args .item)) (sym (is-10 (c .before)) ∙ c .if10 .left)
+
+slice-aggregate-same-text : tie.Need-slice-aggregate-same-text
+slice-aggregate-same-text c = search needs
+
+same-text-requires : tie.Need-same-text-requires
+same-text-requires c κs = search needs
 
 returns : tie.Need-returns
 unfolding wordOf
-returns c = sym (chosen Start (drop 1 words) (c .before .before .before .before .args .line .now) (sym (c .before .begins .ensures) ∙ c .if1 .taken))
+returns c = sym (chosen Start (drop 1 words) (now (c .before .before .before .before .args .item)) (sym (is-1 (c .before)) ∙ c .if1 .taken))
 
-slice-aggregate-begins-2 : tie.Need-slice-aggregate-begins-2
-slice-aggregate-begins-2 c = search needs
+slice-aggregate-same-text-2 : tie.Need-slice-aggregate-same-text-2
+slice-aggregate-same-text-2 c = search needs
 
-begins-requires-2 : tie.Need-begins-requires-2
-begins-requires-2 c κs = search needs
-
-after1 : (c : tie.Else1) → wordOf (c .before .before .before .before .args .line .now) ≡ firstOf (drop 1 words) (c .before .before .before .before .args .line .now)
-unfolding wordOf
-after1 c = passed Start (drop 1 words) (c .before .before .before .before .args .line .now) (sym (c .before .begins .ensures) ∙ c .if1 .left)
+same-text-requires-2 : tie.Need-same-text-requires-2
+same-text-requires-2 c κs = search needs
 
 returns-2 : tie.Need-returns-2
-returns-2 c = sym (after1 (c .before .before .before) ∙ chosen Open (drop 2 words) (c .before .before .before .before .before .before .before .args .line .now) (sym (c .before .begins2 .ensures) ∙ c .if2 .taken))
+returns-2 c = sym (after-1 (c .before .before .before) ∙ chosen Open (drop 2 words) (now (c .before .before .before .before .before .before .before .args .item)) (sym (is-2 (c .before)) ∙ c .if2 .taken))
 
-slice-aggregate-begins-3 : tie.Need-slice-aggregate-begins-3
-slice-aggregate-begins-3 c = search needs
+slice-aggregate-same-text-3 : tie.Need-slice-aggregate-same-text-3
+slice-aggregate-same-text-3 c = search needs
 
-begins-requires-3 : tie.Need-begins-requires-3
-begins-requires-3 c κs = search needs
-
-after2 : (c : tie.Else2) → wordOf (c .before .before .before .before .before .before .before .args .line .now) ≡ firstOf (drop 2 words) (c .before .before .before .before .before .before .before .args .line .now)
-after2 c = after1 (c .before .before .before) ∙ passed Open (drop 2 words) (c .before .before .before .before .before .before .before .args .line .now) (sym (c .before .begins2 .ensures) ∙ c .if2 .left)
+same-text-requires-3 : tie.Need-same-text-requires-3
+same-text-requires-3 c κs = search needs
 
 returns-3 : tie.Need-returns-3
-returns-3 c = sym (after2 (c .before .before .before) ∙ chosen Write (drop 3 words) (c .before .before .before .before .before .before .before .before .before .before .args .line .now) (sym (c .before .begins3 .ensures) ∙ c .if3 .taken))
+returns-3 c = sym (after-2 (c .before .before .before) ∙ chosen Write (drop 3 words) (now (c .before .before .before .before .before .before .before .before .before .before .args .item)) (sym (is-3 (c .before)) ∙ c .if3 .taken))
 
-slice-aggregate-begins-4 : tie.Need-slice-aggregate-begins-4
-slice-aggregate-begins-4 c = search needs
+slice-aggregate-same-text-4 : tie.Need-slice-aggregate-same-text-4
+slice-aggregate-same-text-4 c = search needs
 
-begins-requires-4 : tie.Need-begins-requires-4
-begins-requires-4 c κs = search needs
-
-after3 : (c : tie.Else3) → wordOf (c .before .before .before .before .before .before .before .before .before .before .args .line .now) ≡ firstOf (drop 3 words) (c .before .before .before .before .before .before .before .before .before .before .args .line .now)
-after3 c = after2 (c .before .before .before) ∙ passed Write (drop 3 words) (c .before .before .before .before .before .before .before .before .before .before .args .line .now) (sym (c .before .begins3 .ensures) ∙ c .if3 .left)
+same-text-requires-4 : tie.Need-same-text-requires-4
+same-text-requires-4 c κs = search needs
 
 returns-4 : tie.Need-returns-4
-returns-4 c = sym (after3 (c .before .before .before) ∙ chosen Commit (drop 4 words) (c .before .before .before .before .before .before .before .before .before .before .before .before .before .args .line .now) (sym (c .before .begins4 .ensures) ∙ c .if4 .taken))
+returns-4 c = sym (after-3 (c .before .before .before) ∙ chosen Commit (drop 4 words) (now (c .before .before .before .before .before .before .before .before .before .before .before .before .before .args .item)) (sym (is-4 (c .before)) ∙ c .if4 .taken))
 
-slice-aggregate-begins-5 : tie.Need-slice-aggregate-begins-5
-slice-aggregate-begins-5 c = search needs
+slice-aggregate-same-text-5 : tie.Need-slice-aggregate-same-text-5
+slice-aggregate-same-text-5 c = search needs
 
-begins-requires-5 : tie.Need-begins-requires-5
-begins-requires-5 c κs = search needs
-
-after4 : (c : tie.Else4) → wordOf (c .before .before .before .before .before .before .before .before .before .before .before .before .before .args .line .now) ≡ firstOf (drop 4 words) (c .before .before .before .before .before .before .before .before .before .before .before .before .before .args .line .now)
-after4 c = after3 (c .before .before .before) ∙ passed Commit (drop 4 words) (c .before .before .before .before .before .before .before .before .before .before .before .before .before .args .line .now) (sym (c .before .begins4 .ensures) ∙ c .if4 .left)
+same-text-requires-5 : tie.Need-same-text-requires-5
+same-text-requires-5 c κs = search needs
 
 returns-5 : tie.Need-returns-5
-returns-5 c = sym (after4 (c .before .before .before) ∙ chosen Drop (drop 5 words) (c .before .before .before .before .before .before .before .before .before .before .before .before .before .before .before .before .args .line .now) (sym (c .before .begins5 .ensures) ∙ c .if5 .taken))
+returns-5 c = sym (after-4 (c .before .before .before) ∙ chosen Drop (drop 5 words) (now (c .before .before .before .before .before .before .before .before .before .before .before .before .before .before .before .before .args .item)) (sym (is-5 (c .before)) ∙ c .if5 .taken))
 
-slice-aggregate-begins-6 : tie.Need-slice-aggregate-begins-6
-slice-aggregate-begins-6 c = search needs
+slice-aggregate-same-text-6 : tie.Need-slice-aggregate-same-text-6
+slice-aggregate-same-text-6 c = search needs
 
-begins-requires-6 : tie.Need-begins-requires-6
-begins-requires-6 c κs = search needs
-
-after5 : (c : tie.Else5) → wordOf (c .before .before .before .before .before .before .before .before .before .before .before .before .before .before .before .before .args .line .now) ≡ firstOf (drop 5 words) (c .before .before .before .before .before .before .before .before .before .before .before .before .before .before .before .before .args .line .now)
-after5 c = after4 (c .before .before .before) ∙ passed Drop (drop 5 words) (c .before .before .before .before .before .before .before .before .before .before .before .before .before .before .before .before .args .line .now) (sym (c .before .begins5 .ensures) ∙ c .if5 .left)
+same-text-requires-6 : tie.Need-same-text-requires-6
+same-text-requires-6 c κs = search needs
 
 returns-6 : tie.Need-returns-6
-returns-6 c = sym (after5 (c .before .before .before) ∙ chosen Hold (drop 6 words) (c .before .before .before .before .before .before .before .before .before .before .before .before .before .before .before .before .before .before .before .args .line .now) (sym (c .before .begins6 .ensures) ∙ c .if6 .taken))
+returns-6 c = sym (after-5 (c .before .before .before) ∙ chosen Hold (drop 6 words) (now (c .before .before .before .before .before .before .before .before .before .before .before .before .before .before .before .before .before .before .before .args .item)) (sym (is-6 (c .before)) ∙ c .if6 .taken))
 
-slice-aggregate-begins-7 : tie.Need-slice-aggregate-begins-7
-slice-aggregate-begins-7 c = search needs
+slice-aggregate-same-text-7 : tie.Need-slice-aggregate-same-text-7
+slice-aggregate-same-text-7 c = search needs
 
-begins-requires-7 : tie.Need-begins-requires-7
-begins-requires-7 c κs = search needs
-
-after6 : (c : tie.Else6) → wordOf (c .before .before .before .before .before .before .before .before .before .before .before .before .before .before .before .before .before .before .before .args .line .now) ≡ firstOf (drop 6 words) (c .before .before .before .before .before .before .before .before .before .before .before .before .before .before .before .before .before .before .before .args .line .now)
-after6 c = after5 (c .before .before .before) ∙ passed Hold (drop 6 words) (c .before .before .before .before .before .before .before .before .before .before .before .before .before .before .before .before .before .before .before .args .line .now) (sym (c .before .begins6 .ensures) ∙ c .if6 .left)
+same-text-requires-7 : tie.Need-same-text-requires-7
+same-text-requires-7 c κs = search needs
 
 returns-7 : tie.Need-returns-7
-returns-7 c = sym (after6 (c .before .before .before) ∙ chosen Read (drop 7 words) (c .before .before .before .before .before .before .before .before .before .before .before .before .before .before .before .before .before .before .before .before .before .before .args .line .now) (sym (c .before .begins7 .ensures) ∙ c .if7 .taken))
+returns-7 c = sym (after-6 (c .before .before .before) ∙ chosen Read (drop 7 words) (now (c .before .before .before .before .before .before .before .before .before .before .before .before .before .before .before .before .before .before .before .before .before .before .args .item)) (sym (is-7 (c .before)) ∙ c .if7 .taken))
 
-slice-aggregate-begins-8 : tie.Need-slice-aggregate-begins-8
-slice-aggregate-begins-8 c = search needs
+slice-aggregate-same-text-8 : tie.Need-slice-aggregate-same-text-8
+slice-aggregate-same-text-8 c = search needs
 
-begins-requires-8 : tie.Need-begins-requires-8
-begins-requires-8 c κs = search needs
-
-after7 : (c : tie.Else7) → wordOf (c .before .before .before .before .before .before .before .before .before .before .before .before .before .before .before .before .before .before .before .before .before .before .args .line .now) ≡ firstOf (drop 7 words) (c .before .before .before .before .before .before .before .before .before .before .before .before .before .before .before .before .before .before .before .before .before .before .args .line .now)
-after7 c = after6 (c .before .before .before) ∙ passed Read (drop 7 words) (c .before .before .before .before .before .before .before .before .before .before .before .before .before .before .before .before .before .before .before .before .before .before .args .line .now) (sym (c .before .begins7 .ensures) ∙ c .if7 .left)
+same-text-requires-8 : tie.Need-same-text-requires-8
+same-text-requires-8 c κs = search needs
 
 returns-8 : tie.Need-returns-8
-returns-8 c = sym (after7 (c .before .before .before) ∙ chosen Block (drop 8 words) (c .before .before .before .before .before .before .before .before .before .before .before .before .before .before .before .before .before .before .before .before .before .before .before .before .before .args .line .now) (sym (c .before .begins8 .ensures) ∙ c .if8 .taken))
+returns-8 c = sym (after-7 (c .before .before .before) ∙ chosen Block (drop 8 words) (now (c .before .before .before .before .before .before .before .before .before .before .before .before .before .before .before .before .before .before .before .before .before .before .before .before .before .args .item)) (sym (is-8 (c .before)) ∙ c .if8 .taken))
 
-after8 : (c : tie.Else8) → wordOf (c .before .before .before .before .before .before .before .before .before .before .before .before .before .before .before .before .before .before .before .before .before .before .before .before .before .args .line .now) ≡ firstOf (drop 8 words) (c .before .before .before .before .before .before .before .before .before .before .before .before .before .before .before .before .before .before .before .before .before .before .before .before .before .args .line .now)
-after8 c = after7 (c .before .before .before) ∙ passed Block (drop 8 words) (c .before .before .before .before .before .before .before .before .before .before .before .before .before .before .before .before .before .before .before .before .before .before .before .before .before .args .line .now) (sym (c .before .begins8 .ensures) ∙ c .if8 .left)
+slice-aggregate-same-text-9 : tie.Need-slice-aggregate-same-text-9
+slice-aggregate-same-text-9 c = search needs
+
+same-text-requires-9 : tie.Need-same-text-requires-9
+same-text-requires-9 c κs = search needs
 
 returns-9 : tie.Need-returns-9
-returns-9 c = sym (after8 c)
+returns-9 c = sym (after-8 (c .before .before .before) ∙ chosen Cards (drop 9 words) (now (c .before .before .before .before .before .before .before .before .before .before .before .before .before .before .before .before .before .before .before .before .before .before .before .before .before .before .before .before .args .item)) (sym (is-9 (c .before)) ∙ c .if9 .taken))
+
+slice-aggregate-same-text-10 : tie.Need-slice-aggregate-same-text-10
+slice-aggregate-same-text-10 c = search needs
+
+same-text-requires-10 : tie.Need-same-text-requires-10
+same-text-requires-10 c κs = search needs
+
+returns-10 : tie.Need-returns-10
+returns-10 c = sym (after-9 (c .before .before .before) ∙ chosen Help (drop 10 words) (now (c .before .before .before .before .before .before .before .before .before .before .before .before .before .before .before .before .before .before .before .before .before .before .before .before .before .before .before .before .before .before .before .args .item)) (sym (is-10 (c .before)) ∙ c .if10 .taken))
+
+returns-11 : tie.Need-returns-11
+returns-11 c = sym (after-10 c)
 
 pub first-word-spec : {M : Type 1} → statement M
 first-word-spec =
     tie.close
     (tie.spec
-    slice-aggregate-begins
-    begins-requires
+    slice-aggregate-same-text
+    same-text-requires
     returns
-    slice-aggregate-begins-2
-    begins-requires-2
+    slice-aggregate-same-text-2
+    same-text-requires-2
     returns-2
-    slice-aggregate-begins-3
-    begins-requires-3
+    slice-aggregate-same-text-3
+    same-text-requires-3
     returns-3
-    slice-aggregate-begins-4
-    begins-requires-4
+    slice-aggregate-same-text-4
+    same-text-requires-4
     returns-4
-    slice-aggregate-begins-5
-    begins-requires-5
+    slice-aggregate-same-text-5
+    same-text-requires-5
     returns-5
-    slice-aggregate-begins-6
-    begins-requires-6
+    slice-aggregate-same-text-6
+    same-text-requires-6
     returns-6
-    slice-aggregate-begins-7
-    begins-requires-7
+    slice-aggregate-same-text-7
+    same-text-requires-7
     returns-7
-    slice-aggregate-begins-8
-    begins-requires-8
+    slice-aggregate-same-text-8
+    same-text-requires-8
     returns-8
-    returns-9)
+    slice-aggregate-same-text-9
+    same-text-requires-9
+    returns-9
+    slice-aggregate-same-text-10
+    same-text-requires-10
+    returns-10
+    returns-11)

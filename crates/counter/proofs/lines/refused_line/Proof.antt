@@ -4,7 +4,7 @@ use Prim.Native.Nat.{_<_}
 use mir.Syntax.{w64}
 use mir.Facts.{toZ-pos}
 use native.Mathlib.Omega.{arith}
-use Rattle.refusal.specs.Ascii.{ascii}
+use Rattle.serial.specs.Ascii.{ascii}
 use Rattle.counter.specs.Lines.{textLine, refusedLine}
 use borrow.Author.Needs.{needs}
 use Rattle.counter.proofs.lines.refused_line.Statement.{statement}

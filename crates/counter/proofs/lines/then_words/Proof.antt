@@ -3,8 +3,7 @@ use mathlib.Core.Path.{_≡_, refl, _∙_}
 use native.Mathlib.Omega.{arith}
 use lib.ListN.{length, take, replicate}
 use Rattle.refusal.specs.Words.{wordsOf}
-use Rattle.refusal.proofs.Rows.{words-short, written-all}
-use Rattle.counter.proofs.Laws.{words-shown}
+use Rattle.refusal.proofs.Rows.{words-short, written-all, words-shown}
 use borrow.Author.Needs.{needs}
 use Rattle.counter.proofs.lines.then_words.Statement.{statement}
 use Rattle.counter.proofs.lines.then_words.Tie as tie

@@ -5,7 +5,7 @@ use lib.ListN.{getD, length}
 use mir.Syntax.{w32}
 use mir.Val.{SFits}
 use mir.Facts.{toZ-ofZ}
-use Rattle.interval.proofs.Slots.{six-all}
+use Rattle.tracking.proofs.Slots.{six-all}
 use mathlib.Core.List.{List, _∷_}
 use Rattle.interval.specs.Close.{sevenOf}
 use borrow.Author.Needs.{needs}

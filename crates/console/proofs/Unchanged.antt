@@ -1,0 +1,197 @@
+-- A turn that says no keeps the module: step by step, and then line by line.
+use Prim.Native.Nat.{ℕ}
+use mathlib.Core.Path.{_≡_, refl, ap}
+use mathlib.Core.Bool.{Bool, true, false, cond, false≢true}
+use mathlib.Core.List.{List, [], _∷_}
+use mathlib.Core.Option.{Option, none, some}
+use lib.Dec.{ltb}
+use lib.IntN.{ℤ}
+use lib.ListN.{length, take, drop, getD}
+use Rattle.card.specs.declared.Card.{Card}
+use Rattle.address.specs.declared.ByteAddr.{ByteAddr}
+use Rattle.interval.specs.declared.close.Closed.{Closed}
+use Rattle.steps.specs.Answers.{OrRefusal, refused, accepted}
+use Rattle.steps.specs.Gauge.{Meter, feeds}
+use Rattle.steps.specs.Port.{Port}
+use Rattle.steps.specs.declared.Answer.{Answer}
+use Rattle.steps.specs.declared.Answer.the-variants as answer
+use Rattle.meter.specs.Core.{core, meterOf, samplesOf}
+use Rattle.meter.specs.Blocks.{nextCard, answered, blockOf as meterBlock}
+use Rattle.port.specs.declared.holds.Held.{Held}
+use Rattle.port.specs.Holds.{copied}
+use Rattle.desk.specs.declared.Desk.{Desk}
+use Rattle.desk.specs.Desks.{opening, writing, finished, dropping}
+use Rattle.aberzhan.specs.declared.Module.{Module}
+use Rattle.aberzhan.specs.declared.Stepped.{Stepped}
+use Rattle.aberzhan.specs.Module.{deskOf, withMeter, portAt, atPort, refusal, atDesk, committing, notHeld, holding, openOf, writeOf, commitOf, dropOf, holdOf, readOf, blockOf}
+use Rattle.console.specs.declared.words.Word.{Word}
+use Rattle.console.specs.declared.words.Word.the-variants as word
+use Rattle.console.specs.declared.turns.Said.{Said}
+use Rattle.console.specs.declared.turns.Said.the-variants as said
+use Rattle.console.specs.declared.turns.Turn.{Turn}
+use Rattle.console.specs.declared.words.Kind.the-variants as kind
+use Rattle.console.specs.declared.unread.Why.the-variants as why
+use Rattle.console.specs.Texts.{beginsWith, lengthTo}
+use Rattle.console.specs.Words.{wordOf, itemsOf}
+use Rattle.console.specs.Items.{rowOf, samples}
+use Rattle.console.specs.Unread.{stoppedAt, sideStopped}
+use Rattle.console.specs.Turns.{unreadTurn, saidOf, steppedTurn, heldTurn, begunBy, startedTurn, nth, itemsTurn, withItems, withText, currentsTurn, withSamples, wordTurn, turnOf}
+use Rattle.console.specs.Session.{lineTurn}
+use Rattle.console.specs.Unchanged.{ChangesNothing}
+
+-- what is said says no
+abbrev saysNo : Said → Bool
+saysNo (said.Unread why) = true
+saysNo (said.Refused n) = true
+saysNo said.Done = false
+saysNo (said.Value x) = false
+saysNo said.Held = false
+saysNo said.Cards = false
+saysNo said.Help = false
+
+abbrev Keeps : Module → Turn → Type 0
+Keeps m t = saysNo (t .said) ≡ true → t .after ≡ m
+
+either : (m : Module) (b : Bool) (x y : Turn) → Keeps m x → Keeps m y → Keeps m (cond b x y)
+either m true x y p q = p
+either m false x y p q = q
+
+-- ---- steps
+at-port : (m : Module) (o : Option Port) (act : Port → Stepped) → ((p : Port) → Keeps m (steppedTurn (act p))) → Keeps m (steppedTurn (atPort o (refusal 8 m) act))
+at-port m none act h e = refl
+at-port m (some p) act h e = h p e
+
+at-desk : (m : Module) (p : Port) (r : OrRefusal Desk) → Keeps m (steppedTurn (atDesk m p r))
+at-desk m p (refused n) e = refl
+at-desk m p (accepted d) e = absurd (false≢true e)
+
+commits : (m : Module) (p : Port) (r : OrRefusal Card) → Keeps m (steppedTurn (committing m p r))
+commits m p (refused n) e = refl
+commits m p (accepted c) e = absurd (false≢true e)
+
+holds : (m : Module) (p : Port) (r : OrRefusal Held) → Keeps m (heldTurn (holding m p r))
+holds m p (refused n) e = refl
+holds m p (accepted h) e = absurd (false≢true e)
+
+open-kept : (m : Module) (port : ℤ) (text : List ℕ) → Keeps m (steppedTurn (openOf m port text))
+unfolding openOf
+open-kept m port text = at-port m (portAt port) (λ p. atDesk m p (opening (deskOf m p) text)) (λ p. at-desk m p (opening (deskOf m p) text))
+
+write-kept : (m : Module) (port field v : ℤ) → Keeps m (steppedTurn (writeOf m port field v))
+unfolding writeOf
+write-kept m port field v = at-port m (portAt port) (λ p. atDesk m p (writing (deskOf m p) field v)) (λ p. at-desk m p (writing (deskOf m p) field v))
+
+drop-kept : (m : Module) (port : ℤ) → Keeps m (steppedTurn (dropOf m port))
+unfolding dropOf
+drop-kept m port = at-port m (portAt port) (λ p. atDesk m p (dropping (deskOf m p))) (λ p. at-desk m p (dropping (deskOf m p)))
+
+commit-kept : (m : Module) (port : ℤ) → Keeps m (steppedTurn (commitOf m port))
+unfolding commitOf
+commit-kept m port = at-port m (portAt port) (λ p. committing m p (finished (deskOf m p))) (λ p. commits m p (finished (deskOf m p)))
+
+hold-kept : (m : Module) (port : ℤ) → Keeps m (heldTurn (holdOf m port))
+unfolding holdOf
+hold-kept m port = by (portAt port)
+  where
+    copy : OrRefusal Held
+    copy = copied (m .meter .work .any) (m .meter .work .last) (m .meter .work .settings .track)
+
+    by : (o : Option Port) → Keeps m (heldTurn (atPort o (notHeld 8 m) (λ p. holding m p copy)))
+    by none e = refl
+    by (some p) e = holds m p copy e
+
+block-kept : (m : Module) (v i : List ℤ) → Keeps m (steppedTurn (blockOf m v i))
+unfolding blockOf meterBlock
+block-kept m v i = by (feeds core (samplesOf v i) (nextCard (m .meter)) (meterOf (m .meter)))
+  where
+    by : (r : OrRefusal (Meter core × List Closed)) → Keeps m (steppedTurn (record { answer = answered (m .meter) r .answer; after = withMeter (answered (m .meter) r .after) m }))
+    by (refused n) e = refl
+    by (accepted x) e = absurd (false≢true e)
+
+start-kept : (m : Module) (s : Stepped) → Keeps m (startedTurn m s)
+unfolding startedTurn
+start-kept m s = by (s .answer)
+  where
+    by : (a : Answer) → saysNo (saidOf a) ≡ true → begunBy a (s .after) m ≡ m
+    by answer.Done e = absurd (false≢true e)
+    by (answer.Refused n) e = refl
+
+read-kept : (m : Module) (port : ℤ) (a : ByteAddr) → readOf m port a .after ≡ m
+unfolding readOf
+read-kept m port a = refl
+
+-- ---- lines
+items-kept : (m : Module) (w : Word) (x : List ℤ) → Keeps m (itemsTurn m w x)
+items-kept m word.Start x = start-kept m _
+items-kept m word.Write x = write-kept m _ _ _
+items-kept m word.Commit x = commit-kept m _
+items-kept m word.Drop x = drop-kept m _
+items-kept m word.Hold x = hold-kept m _
+items-kept m word.Read x = λ e. read-kept m _ _
+items-kept m word.Cards x = λ e. refl
+items-kept m word.Help x = λ e. refl
+items-kept m word.Open x = λ e. refl
+items-kept m word.Block x = λ e. refl
+items-kept m word.Other x = λ e. refl
+
+with-items-kept : (m : Module) (w : Word) (rest : List ℕ) → Keeps m (withItems m w rest)
+unfolding withItems
+with-items-kept m w rest =
+    let row = rowOf (itemsOf w) rest in
+    let count = length (row .values) in
+    let stops = unreadTurn m (stoppedAt (getD (itemsOf w) count kind.Number) (drop (row .bytes) rest)) in
+    let steps = itemsTurn m w (row .values) in
+    let more = ltb (row .bytes) (length rest) in
+    either m (ltb count (length (itemsOf w))) stops (cond more (unreadTurn m why.More) steps) (λ e. refl)
+    (either m more (unreadTurn m why.More) steps (λ e. refl) (items-kept m w (row .values)))
+
+text-kept : (m : Module) (rest : List ℕ) → Keeps m (withText m rest)
+unfolding withText
+text-kept m rest =
+    let row = rowOf (itemsOf word.Open) rest in
+    let behind = drop (row .bytes) rest in
+    let steps = steppedTurn (openOf m (nth (row .values) 0) (drop 1 behind)) in
+    let spaced = beginsWith (32 ∷ []) behind in
+    either m (ltb (length (row .values)) 1) (unreadTurn m (stoppedAt kind.Number behind)) (cond spaced steps (unreadTurn m why.Missing)) (λ e. refl)
+    (either m spaced steps (unreadTurn m why.Missing) (open-kept m (nth (row .values) 0) (drop 1 behind)) (λ e. refl))
+
+currents-kept : (b : ℕ) (m : Module) (v : List ℤ) (text : List ℕ) → Keeps m (currentsTurn b m v text)
+unfolding currentsTurn
+currents-kept b m v text =
+    let i = rowOf (samples b) text in
+    either m (ltb (i .bytes) (length text)) (unreadTurn m (sideStopped b (length (i .values)) (drop (i .bytes) text))) (steppedTurn (blockOf m v (i .values))) (λ e. refl)
+    (block-kept m v (i .values))
+
+samples-kept : (a b : ℕ) (m : Module) (rest : List ℕ) → Keeps m (withSamples a b m rest)
+unfolding withSamples
+samples-kept a b m rest =
+    let v = rowOf (samples a) rest in
+    let behind = drop (v .bytes) rest in
+    either m (beginsWith (32 ∷ 124 ∷ []) behind) (currentsTurn b m (v .values) (drop 2 behind)) (unreadTurn m (sideStopped a (length (v .values)) behind))
+    (currents-kept b m (v .values) (drop 2 behind)) (λ e. refl)
+
+word-kept : (a b : ℕ) (m : Module) (w : Word) (rest : List ℕ) → Keeps m (wordTurn a b m w rest)
+word-kept a b m word.Open rest = text-kept m rest
+word-kept a b m word.Block rest = samples-kept a b m rest
+word-kept a b m word.Other rest = λ e. refl
+word-kept a b m word.Start rest = with-items-kept m word.Start rest
+word-kept a b m word.Write rest = with-items-kept m word.Write rest
+word-kept a b m word.Commit rest = with-items-kept m word.Commit rest
+word-kept a b m word.Drop rest = with-items-kept m word.Drop rest
+word-kept a b m word.Hold rest = with-items-kept m word.Hold rest
+word-kept a b m word.Read rest = with-items-kept m word.Read rest
+word-kept a b m word.Cards rest = with-items-kept m word.Cards rest
+word-kept a b m word.Help rest = with-items-kept m word.Help rest
+
+line-kept : (m : Module) (line : List ℕ) → Keeps m (lineTurn m line)
+unfolding turnOf
+line-kept m line =
+    let n = lengthTo 32 line in
+    either m (ltb 131071 (length line)) (unreadTurn m why.TooLong) (wordTurn 8192 8192 m (wordOf (take n line)) (drop n line)) (λ e. refl)
+    (word-kept 8192 8192 m (wordOf (take n line)) (drop n line))
+
+pub changes-nothing : ChangesNothing
+changes-nothing = record {
+  unread = λ m line why e. line-kept m line (ap saysNo e);
+  refused = λ m line n e. line-kept m line (ap saysNo e);
+}

@@ -1,0 +1,3 @@
+-- Laws of a port's desk.
+pub mod Writes
+pub mod Decided

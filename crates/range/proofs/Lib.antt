@@ -1,0 +1,3 @@
+-- Laws of the range and of clipping.
+pub mod Ranges
+pub mod Decided

@@ -1,0 +1,3 @@
+-- Laws of the root.
+pub mod Roots
+pub mod Decided

@@ -1,0 +1,2 @@
+-- The root, rounded down.
+pub mod Root

@@ -1,0 +1,3 @@
+-- Laws of a start.
+pub mod Starts
+pub mod Decided

@@ -1,0 +1,62 @@
+-- The ways through a start, and that a fresh meter is sound.
+use Prim.Native.Nat.{ℕ, _≤_}
+use mathlib.Core.Path.{_≡_, refl, sym, ap₂}
+use mathlib.Core.Bool.{Bool, true, false, cond, _&&_, true≢false}
+use mathlib.Core.List.{List}
+use lib.Dec.{T, lit≤}
+use lib.IntN.{ℤ, pos, negsuc, natAbs}
+use lib.Signed.{leZ, nonNeg}
+use borrow.Author.Tests.{leb-true}
+use Rattle.address.specs.declared.WordAddr.{WordAddr}
+use Rattle.address.specs.Slots.{everySlot}
+use Rattle.meter.proofs.Sound.{Sound}
+use Rattle.sample.specs.Inside.{Phased}
+use Rattle.starting.specs.Starting.{numbersOk, noCard, freshOf, startOf, notStarted}
+use Rattle.steps.specs.declared.Answer.the-variants.{Done}
+
+-- a fresh module is sound
+no-card-phased : Phased noCard
+no-card-phased = record { low = tt; high = lit≤ tt }
+
+pub fresh-sound : (n b : ℕ) (track : List WordAddr) → 1 ≤ n → n ≤ 4096 → Sound (freshOf n b track)
+unfolding freshOf
+fresh-sound n b track n1 n2 = record {
+  n-most = n2;
+  taken-most = n1;
+  room = record { vv = lit≤ tt; flow = record { ii = lit≤ tt; vi = lit≤ tt } };
+  waiting = no-card-phased;
+  force = no-card-phased;
+}
+
+-- ---- the ways through a start
+start-by : (s t : Bool) (n b : ℤ) (track : List WordAddr) → numbersOk n b ≡ s → everySlot track ≡ t →
+    startOf n b track ≡ cond (s && t) (record { answer = Done; after = freshOf (natAbs n) (natAbs b) track }) notStarted
+unfolding startOf
+start-by s t n b track e f = ap₂ (λ (s : Bool) (t : Bool). cond (s && t) (record { answer = Done; after = freshOf (natAbs n) (natAbs b) track }) notStarted) e f
+
+module _ (n b : ℤ) (track : List WordAddr) where
+  pub start-done : numbersOk n b ≡ true → everySlot track ≡ true → record { answer = Done; after = freshOf (natAbs n) (natAbs b) track } ≡ startOf n b track
+  start-done e f = sym (start-by true true n b track e f)
+
+  pub start-slots : numbersOk n b ≡ true → everySlot track ≡ false → notStarted ≡ startOf n b track
+  start-slots e f = sym (start-by true false n b track e f)
+
+  pub start-not : numbersOk n b ≡ false → notStarted ≡ startOf n b track
+  start-not e = sym (start-by false (everySlot track) n b track e refl)
+
+-- the numbers of a start that is taken
+both-of : (s t : Bool) → s && t ≡ true → (s ≡ true) × (t ≡ true)
+both-of true t e = (refl, e)
+both-of false t e = absurd (true≢false (sym e))
+
+between : (z : ℤ) (m : ℕ) → leZ (pos 1) z ≡ true → leZ z (pos m) ≡ true → T (nonNeg z) × (1 ≤ natAbs z) × (natAbs z ≤ m)
+between (pos n) m d e = (tt, leb-true 1 n d, leb-true n m e)
+between (negsuc n) m d e = absurd (true≢false (sym d))
+
+pub numbers-in : (n b : ℤ) → numbersOk n b ≡ true → (T (nonNeg n) × (1 ≤ natAbs n) × (natAbs n ≤ 4096)) × (T (nonNeg b) × (1 ≤ natAbs b) × (natAbs b ≤ 281474976710655))
+unfolding numbersOk
+numbers-in n b e =
+    let c3 : _ = both-of _ _ e in
+    let c2 : _ = both-of _ _ (c3 .0) in
+    let c1 : _ = both-of _ _ (c2 .0) in
+    (between n 4096 (c1 .0) (c1 .1), between b 281474976710655 (c2 .1) (c3 .1))

@@ -1,0 +1,39 @@
+-- The start of a module: N 1 to 4,096, B 1 to 2^48 - 1, six words to track, each 0 or one that can be tracked; otherwise 7.
+use Prim.Native.Nat.{ℕ}
+use mathlib.Core.Bool.{Bool, false, cond, _&&_}
+use mathlib.Core.List.{List}
+use lib.IntN.{ℤ, pos, natAbs}
+use lib.Signed.{leZ}
+use lib.ListN.{replicate}
+use Rattle.card.specs.declared.Card.{Card}
+use Rattle.serial.specs.Serials.{noSerial}
+use Rattle.address.specs.declared.WordAddr.{WordAddr}
+use Rattle.address.specs.Slots.{off, everySlot}
+use Rattle.sample.specs.Sums.{noSums}
+use Rattle.interval.specs.Close.{noneClosed}
+use Rattle.meter.specs.declared.Work.{Work}
+use Rattle.meter.specs.declared.Meter.{Meter}
+use Rattle.steps.specs.declared.Answer.the-variants.{Done, Refused}
+use Rattle.meter.specs.declared.Stepped.{Stepped}
+
+-- N and B in range
+unfoldable pub numbersOk : ℤ → ℤ → Bool
+numbersOk n b = leZ (pos 1) n && leZ n (pos 4096) && leZ (pos 1) b && leZ b (pos 281474976710655)
+
+abbrev pub noCard : Card
+noCard = record { serial = noSerial; fields = replicate 8 (pos 0) }
+
+-- no interval, counts and remainders 0
+abbrev pub freshWork : ℕ → ℕ → List WordAddr → Work
+freshWork n b track = record { settings = record { n = n; b = b; track = track }; sums = noSums; any = false; last = noneClosed }
+
+-- and no card
+unfoldable pub freshOf : ℕ → ℕ → List WordAddr → Meter
+freshOf n b track = record { waits = false; waiting = noCard; forced = false; force = noCard; taken = 0; work = freshWork n b track }
+
+-- a refused start: N 1, B 1, all slots off
+abbrev pub notStarted : Stepped
+notStarted = record { answer = Refused 7; after = freshOf 1 1 (replicate 6 off) }
+
+unfoldable pub startOf : ℤ → ℤ → List WordAddr → Stepped
+startOf n b track = cond (numbersOk n b && everySlot track) (record { answer = Done; after = freshOf (natAbs n) (natAbs b) track }) notStarted

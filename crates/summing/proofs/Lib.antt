@@ -1,0 +1,3 @@
+-- Laws of the samples' loop.
+pub mod Probes
+pub mod Decided

@@ -1,0 +1,2 @@
+-- Samples that join the sums, one after another.
+pub mod Inside

@@ -1,0 +1,142 @@
+// The samples' loop, on the sums alone: what the card does to a sample is taken out of it once.
+ghost use mathlib.Core.Path.{_≡_};
+ghost use Prim.Native.Nat.{_≤_, _<_};
+ghost use lib.IntN.{pos};
+ghost use lib.Signed.{mag};
+ghost use lib.ListN.{length, getD};
+ghost use Rattle.sample.specs.Sample.{corrected, mixed};
+ghost use Rattle.sample.specs.Sums.{joined, summed, previous, samplesIn, addedAll, withSamples};
+ghost use Rattle.sample.specs.Inside.{Flowing, Room, Spare, Phased};
+ghost use Rattle.summing.specs.Inside.{probeOf, probedAll};
+use card::Card;
+use card::names::IGAIN;
+use card::names::IOFFS;
+use card::names::PHASE;
+use card::names::VGAIN;
+use card::names::VOFFS;
+use sample::Flow;
+use sample::Sums;
+use sample::correct;
+use sample::mix;
+use sample::phase_in_range;
+
+// The five values that a sample needs of its card.
+pub struct Probe {
+    pub voffs: i32,
+    pub ioffs: i32,
+    pub vgain: i32,
+    pub igain: i32,
+    pub phase: u16,
+}
+
+fn probe_of(c: Card) -> Probe
+    requires { ⌜ Phased c ⌝ }
+    ensures { λ r. ⌜ r ≡ probeOf c ⌝ }
+{
+    let f = c.fields;
+    Probe {
+        voffs: f[VOFFS],
+        ioffs: f[IOFFS],
+        vgain: f[VGAIN],
+        igain: f[IGAIN],
+        phase: f[PHASE] as u16,
+    }
+}
+
+// A sample of corrected voltage v and corrected current i joins a source's sums.
+fn join(f: Flow, v: i32, i: i32) -> Flow
+    requires { ⌜ Flowing f 4096 × (mag v < 8388608) × (mag i < 8388608) ⌝ }
+    ensures { λ r. ⌜ r ≡ joined f v i ⌝ }
+{
+    let z = number::size(i as i64) as u32;
+    let k = f.peak;
+    let mut peak = k;
+    if k < z {
+        peak = z;
+    }
+    Flow {
+        ii: f.ii + number::square(i),
+        vi: f.vi + number::product(v, i),
+        peak,
+    }
+}
+
+fn add(s: Sums, v: i32, i: i32, raw: i32) -> Sums
+    requires { ⌜ Room s 4096 × (mag v < 8388608) × (mag i < 8388608) ⌝ }
+    ensures { λ r. ⌜ r ≡ summed s v i raw ⌝ }
+{
+    let f = s.flow;
+    let flow = join(f, v, i);
+    Sums {
+        vv: s.vv + number::square(v),
+        flow,
+        seen: true,
+        raw,
+    }
+}
+
+// One sample more: v the raw voltage, now and old the corrected currents, raw the raw current.
+fn take(s: Sums, p: Probe, v: i32, now: i32, old: i32, raw: i32) -> Sums
+    requires { ⌜ Room s 4096 × (p .phase ≤ 4095) × (mag now < 8388608) × (mag old < 8388608) ⌝ }
+    ensures { λ r. ⌜ r ≡ summed s (corrected v (p .voffs) (p .vgain)) (mixed (p .phase) now old) raw ⌝ }
+{
+    let cv = correct(v, p.voffs, p.vgain);
+    let m = mix(p.phase, now, old);
+    add(s, cv, m as i32, raw)
+}
+
+// The corrected current before a sample whose raw current is raw.
+fn corrected_before(s: Sums, p: Probe, raw: i32) -> i32
+    ensures { λ r. ⌜ r ≡ corrected (previous s raw) (p .ioffs) (p .igain) ⌝ }
+{
+    if s.seen {
+        return correct(s.raw, p.ioffs, p.igain);
+    }
+    correct(raw, p.ioffs, p.igain)
+}
+
+// The samples of two slices, one after another; first is the corrected current before the first of them.
+fn run_with(s0: Sums, p: Probe, first: i32, v: &[i32], i: &[i32]) -> Sums
+    requires { ⌜ (p .phase ≤ 4095) × Spare s0 (length (now v)) × (length (now v) ≡ length (now i)) ⌝ }
+    requires { ⌜ first ≡ corrected (previous s0 (getD (now i) 0 (pos 0))) (p .ioffs) (p .igain) ⌝ }
+    ensures { λ r. ⌜ r ≡ probedAll p s0 (samplesIn (now (v .entry)) (now (i .entry))) ⌝ }
+{
+    let mut old = first;
+    let mut s = s0;
+    let mut k: usize = 0;
+    while k < v.len() {
+        let raw = i[k];
+        let now = correct(raw, p.ioffs, p.igain);
+        s = take(s, p, v[k], now, old, raw);
+        old = now;
+        k += 1;
+    }
+    s
+}
+
+// The samples of two slices, one after another.
+fn run(s0: Sums, c: Card, v: &[i32], i: &[i32]) -> Sums
+    requires { ⌜ Phased c × Spare s0 (length (now v)) × (length (now v) ≡ length (now i)) ⌝ }
+    ensures { λ r. ⌜ r ≡ addedAll c s0 (samplesIn (now (v .entry)) (now (i .entry))) ⌝ }
+{
+    if v.len() == 0 {
+        return s0;
+    }
+    let p = probe_of(c);
+    let first = corrected_before(s0, p, i[0]);
+    run_with(s0, p, first, v, i)
+}
+
+// The samples of two slices join the sums of n samples; where a sum could pass 64 bits, nothing joins.
+pub fn with_samples(s: Sums, n: u32, c: Card, v: &[i32], i: &[i32]) -> Sums
+    ensures { λ r. ⌜ r ≡ withSamples n c s (now (v .entry)) (now (i .entry)) ⌝ }
+{
+    if v.len() == i.len() {
+        if v.len() <= 4096 {
+            if (n as usize <= 4096 - v.len()) & s.of_at_most(n) & phase_in_range(c) {
+                return run(s, c, v, i);
+            }
+        }
+    }
+    s
+}

@@ -1,0 +1,3 @@
+-- Laws of a number that is typed.
+pub mod Laws
+pub mod Decided
