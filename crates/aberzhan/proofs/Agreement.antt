@@ -14,7 +14,7 @@ use Rattle.steps.proofs.Calls.{Does}
 use Rattle.steps.specs.declared.Answer.the-variants.{Done, Refused}
 use Rattle.card.specs.declared.Card.{Card}
 use Rattle.address.specs.declared.ByteAddr.{ByteAddr}
-use Rattle.interval.specs.declared.close.Closed.{Closed}
+use Rattle.interval.specs.declared.Closed.{Closed}
 use Rattle.sample.specs.Sample.{every24}
 use Rattle.sample.specs.Sums.{Sample, samplesIn}
 use Rattle.meter.specs.declared.Stepped.{Stepped as Metered}
@@ -23,11 +23,11 @@ use Rattle.meter.specs.Blocks.{waitOf, nextCard, answered, blockOf as meterBloc
 use Rattle.meter.proofs.Sound.{Sound as SoundMeter}
 use Rattle.meter.proofs.Agreement.{block-feeds}
 use Rattle.desk.specs.declared.Desk.{Desk}
-use Rattle.port.specs.declared.holds.Held.{Held}
+use Rattle.port.specs.declared.Held.{Held}
 use Rattle.desk.specs.Desks.{openWith, writeField, shutDesk, opening, writing, finished, discarded, dropping}
 use Rattle.port.specs.Holds.{register, copied}
 use Rattle.port.specs.Reading.{look}
-use Rattle.port.specs.declared.holds.Reading.the-variants.{Refused as NotRead}
+use Rattle.port.specs.declared.Reading.the-variants.{Refused as NotRead}
 use Rattle.port.specs.Answers.{looked}
 use Rattle.aberzhan.specs.declared.Module.{Module}
 use Rattle.aberzhan.specs.Ports.{aberzhan}

@@ -10,8 +10,8 @@ use Rattle.steps.specs.Port.{Port, port0, port1}
 use Rattle.card.specs.declared.Card.{Card}
 use Rattle.address.specs.declared.ByteAddr.{ByteAddr}
 use Rattle.desk.specs.declared.Desk.{Desk}
-use Rattle.port.specs.declared.holds.Held.{Held}
-use Rattle.port.specs.declared.holds.Reading.the-variants.{Refused as NotRead}
+use Rattle.port.specs.declared.Held.{Held}
+use Rattle.port.specs.declared.Reading.the-variants.{Refused as NotRead}
 use Rattle.desk.specs.Desks.{opening, writing, finished, dropping}
 use Rattle.port.specs.Holds.{copied}
 use Rattle.port.specs.Reading.{look}

@@ -11,8 +11,8 @@ use Rattle.steps.specs.declared.Answer.the-variants.{Done, Refused}
 use Rattle.serial.specs.declared.Serial.{Serial}
 use Rattle.address.specs.declared.ByteAddr.{ByteAddr}
 use Rattle.meter.specs.Core.{meterOf, keptOf}
-use Rattle.port.specs.declared.holds.Reading.{Reading}
-use Rattle.port.specs.declared.holds.Reading.the-variants.{Value as ReadOut, Refused as NotRead}
+use Rattle.port.specs.declared.Reading.{Reading}
+use Rattle.port.specs.declared.Reading.the-variants.{Value as ReadOut, Refused as NotRead}
 use Rattle.desk.specs.Desks.{openWith, writeField}
 use Rattle.port.specs.Holds.{interval, register}
 use Rattle.aberzhan.specs.declared.Module.{Module}

@@ -9,8 +9,8 @@ use Rattle.meter.specs.Blocks.{waitOf}
 use Rattle.desk.specs.declared.Desk.{Desk}
 use Rattle.desk.specs.declared.Desked.{Desked}
 use Rattle.desk.specs.declared.Finished.{Finished}
-use Rattle.port.specs.declared.holds.Held.{Held}
-use Rattle.port.specs.declared.holds.Copied.{Copied}
+use Rattle.port.specs.declared.Held.{Held}
+use Rattle.port.specs.declared.Copied.{Copied}
 use Rattle.aberzhan.specs.declared.Module.{Module}
 use Rattle.aberzhan.specs.declared.Stepped.{Stepped}
 use Rattle.aberzhan.specs.declared.Holding.{Holding}

@@ -14,8 +14,8 @@ use Rattle.meter.specs.declared.Meter.{Meter}
 use Rattle.meter.specs.Blocks.{waitOf, blockOf as meterBlock}
 use Rattle.starting.specs.Starting.{startOf as meterStart}
 use Rattle.desk.specs.declared.Desk.{Desk}
-use Rattle.port.specs.declared.holds.Held.{Held}
-use Rattle.port.specs.declared.holds.Reading.the-variants.{Refused as NotRead}
+use Rattle.port.specs.declared.Held.{Held}
+use Rattle.port.specs.declared.Reading.the-variants.{Refused as NotRead}
 use Rattle.desk.specs.Desks.{shutDesk, opening, writing, finished, dropping}
 use Rattle.port.specs.Holds.{nothingHeld, copied}
 use Rattle.port.specs.Reading.{look}

@@ -8,7 +8,7 @@ use Rattle.card.specs.declared.Card.{Card}
 use Rattle.address.specs.declared.ByteAddr.{ByteAddr}
 use Rattle.meter.specs.Core.{core}
 use Rattle.desk.specs.declared.Desk.{Desk}
-use Rattle.port.specs.declared.holds.Held.{Held}
+use Rattle.port.specs.declared.Held.{Held}
 use Rattle.desk.specs.Desks.{Edit, shutDesk, edited, finished, discarded}
 use Rattle.port.specs.Holds.{Value, register, nothingHeld, copied, told}
 use Rattle.port.specs.Reading.{look}

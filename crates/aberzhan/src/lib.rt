@@ -10,9 +10,9 @@ use desk::Desk;
 use desk::Desked;
 use desk::Finished;
 use meter::Meter;
-use port::holds::Copied;
-use port::holds::Held;
-use port::holds::Reading;
+use port::Copied;
+use port::Held;
+use port::Reading;
 use serial::Serial;
 use steps::Answer;
 

@@ -9,7 +9,7 @@ use lib.IntN.{ℤ}
 use lib.ListN.{length, take, drop, getD}
 use Rattle.card.specs.declared.Card.{Card}
 use Rattle.address.specs.declared.ByteAddr.{ByteAddr}
-use Rattle.interval.specs.declared.close.Closed.{Closed}
+use Rattle.interval.specs.declared.Closed.{Closed}
 use Rattle.steps.specs.Answers.{OrRefusal, refused, accepted}
 use Rattle.steps.specs.Gauge.{Meter, feeds}
 use Rattle.steps.specs.Port.{Port}
@@ -17,7 +17,7 @@ use Rattle.steps.specs.declared.Answer.{Answer}
 use Rattle.steps.specs.declared.Answer.the-variants as answer
 use Rattle.meter.specs.Core.{core, meterOf, samplesOf}
 use Rattle.meter.specs.Blocks.{nextCard, answered, blockOf as meterBlock}
-use Rattle.port.specs.declared.holds.Held.{Held}
+use Rattle.port.specs.declared.Held.{Held}
 use Rattle.port.specs.Holds.{copied}
 use Rattle.desk.specs.declared.Desk.{Desk}
 use Rattle.desk.specs.Desks.{opening, writing, finished, dropping}

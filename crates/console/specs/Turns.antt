@@ -9,8 +9,8 @@ use Rattle.serial.specs.Serials.{noSerial}
 use Rattle.address.specs.Addresses.{wordAddr, byteAddr}
 use Rattle.steps.specs.declared.Answer.{Answer}
 use Rattle.steps.specs.declared.Answer.the-variants as answer
-use Rattle.port.specs.declared.holds.Reading.{Reading}
-use Rattle.port.specs.declared.holds.Reading.the-variants as reading
+use Rattle.port.specs.declared.Reading.{Reading}
+use Rattle.port.specs.declared.Reading.the-variants as reading
 use Rattle.aberzhan.specs.declared.Module.{Module}
 use Rattle.aberzhan.specs.declared.Stepped.{Stepped}
 use Rattle.aberzhan.specs.declared.Holding.{Holding}

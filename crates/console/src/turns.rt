@@ -23,7 +23,7 @@ use aberzhan::Module;
 use aberzhan::Stepped;
 use address::byte_addr;
 use address::word_addr;
-use port::holds::Reading;
+use port::Reading;
 use serial::Serial;
 use steps::Answer;
 

@@ -8,8 +8,8 @@ use Rattle.steps.proofs.Work.{LastingWork, always-work}
 use Rattle.card.specs.declared.Card.{Card}
 use Rattle.address.specs.declared.WordAddr.{WordAddr}
 use Rattle.energy.specs.declared.Energy.{Energy}
-use Rattle.interval.specs.declared.close.Settings.{Settings}
-use Rattle.interval.specs.declared.close.Closed.{Closed}
+use Rattle.interval.specs.declared.Settings.{Settings}
+use Rattle.interval.specs.declared.Closed.{Closed}
 use Rattle.rules.specs.Source.{six, figuresOf}
 use Rattle.energy.specs.Energies.{noEnergy}
 use Rattle.interval.specs.Close.{sourceAfter, registersAfter, closedOf, noneClosed}

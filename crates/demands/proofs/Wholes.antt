@@ -15,8 +15,8 @@ use Rattle.steps.proofs.AllSamples.{all-fed}
 use Rattle.card.specs.declared.Card.{Card}
 use Rattle.address.specs.declared.WordAddr.{WordAddr}
 use Rattle.sample.specs.declared.Sums.{Sums}
-use Rattle.interval.specs.declared.close.Settings.{Settings}
-use Rattle.interval.specs.declared.close.Closed.{Closed}
+use Rattle.interval.specs.declared.Settings.{Settings}
+use Rattle.interval.specs.declared.Closed.{Closed}
 use Rattle.sample.specs.Sums.{Sample, addedAll, emptied, previous, noSums}
 use Rattle.interval.specs.Whole.{lastRaw, intervalOf, sumsOf as wholeSums}
 use Rattle.interval.specs.Close.{closedOf, noneClosed}

@@ -19,7 +19,7 @@ use Rattle.card.specs.declared.Card.{Card}
 use Rattle.address.specs.declared.WordAddr.{WordAddr}
 use Rattle.address.specs.declared.ByteAddr.{ByteAddr}
 use Rattle.energy.specs.declared.Energy.{Energy}
-use Rattle.interval.specs.declared.close.Closed.{Closed}
+use Rattle.interval.specs.declared.Closed.{Closed}
 use Rattle.address.specs.Slots.{off}
 use Rattle.meter.specs.Core.{core}
 use Rattle.aberzhan.specs.declared.Module.{Module}

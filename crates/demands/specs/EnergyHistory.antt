@@ -4,8 +4,8 @@ use mathlib.Core.List.{List, [], _∷_, foldl}
 use lib.IntN.{ℤ, pos}
 use lib.ListN.{getD}
 use Rattle.energy.specs.declared.Energy.{Energy}
-use Rattle.interval.specs.declared.close.Settings.{Settings}
-use Rattle.interval.specs.declared.close.Closed.{Closed}
+use Rattle.interval.specs.declared.Settings.{Settings}
+use Rattle.interval.specs.declared.Closed.{Closed}
 use Rattle.energy.specs.Energies.{plusAfter, minusAfter, noEnergy}
 use Rattle.interval.specs.Close.{noneClosed}
 use Rattle.meter.specs.declared.Work.{Work}

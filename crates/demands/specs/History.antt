@@ -4,7 +4,7 @@ use mathlib.Core.List.{List, [], _∷_}
 use mathlib.Core.Option.{Option, none, some}
 use lib.IntN.{ℤ}
 use Rattle.steps.specs.OneCard.{Interval}
-use Rattle.interval.specs.declared.close.Closed.{Closed}
+use Rattle.interval.specs.declared.Closed.{Closed}
 use Rattle.interval.specs.Whole.{lastRaw}
 use Rattle.interval.specs.Rms.{RmsOf}
 use Rattle.interval.specs.History.{EachFollowed}

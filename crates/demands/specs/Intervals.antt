@@ -8,8 +8,8 @@ use lib.IntN.{ℤ, pos}
 use lib.ListN.{length, take, drop}
 use Rattle.steps.specs.Shorter.{struck}
 use Rattle.steps.specs.OneCard.{Tagged, Interval, tagged, samplesFed}
-use Rattle.interval.specs.declared.close.Settings.{Settings}
-use Rattle.interval.specs.declared.close.Closed.{Closed}
+use Rattle.interval.specs.declared.Settings.{Settings}
+use Rattle.interval.specs.declared.Closed.{Closed}
 use Rattle.sample.specs.Sums.{Sample}
 use Rattle.interval.specs.Whole.{lastRaw, intervalOf}
 use Rattle.interval.specs.Close.{noneClosed}

@@ -6,8 +6,8 @@ use Rattle.steps.specs.Module.{Step}
 use Rattle.steps.specs.Run.{Run}
 use Rattle.steps.specs.Calls.{Log, Ran, asked, runOf}
 use Rattle.address.specs.declared.WordAddr.{WordAddr}
-use Rattle.interval.specs.declared.close.Settings.{Settings}
-use Rattle.interval.specs.declared.close.Closed.{Closed}
+use Rattle.interval.specs.declared.Settings.{Settings}
+use Rattle.interval.specs.declared.Closed.{Closed}
 use Rattle.aberzhan.specs.declared.Module.{Module}
 use Rattle.aberzhan.specs.declared.Stepped.{Stepped}
 use Rattle.aberzhan.specs.Ports.{aberzhan}

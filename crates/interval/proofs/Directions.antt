@@ -12,7 +12,7 @@ use Rattle.sample.specs.declared.Flow.{Flow}
 use Rattle.rules.specs.Source.{figuresOf, wattOf}
 use Rattle.rules.proofs.Places.{watt-at}
 use Rattle.energy.specs.Energies.{advanced, joinedBy, amountOf, plusAfter, minusAfter}
-use Rattle.interval.specs.declared.close.Source.{Source}
+use Rattle.interval.specs.declared.Source.{Source}
 use Rattle.interval.specs.Close.{withPlus, withMinus, sourceAfter}
 
 -- a number is not on both sides of 0

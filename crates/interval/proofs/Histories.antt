@@ -12,8 +12,8 @@ use Rattle.number.proofs.Signed.{signs}
 use Rattle.card.specs.declared.Card.{Card}
 use Rattle.sample.specs.declared.Sums.{Sums}
 use Rattle.sample.specs.Sums.{Sample}
-use Rattle.interval.specs.declared.close.Settings.{Settings}
-use Rattle.interval.specs.declared.close.Closed.{Closed}
+use Rattle.interval.specs.declared.Settings.{Settings}
+use Rattle.interval.specs.declared.Closed.{Closed}
 use Rattle.tracking.specs.Tracking.{further, lowest, highest, followed}
 use Rattle.interval.specs.Close.{closedOf, registersAfter, sourceAfter, numberAfter, noneClosed}
 use Rattle.interval.specs.Whole.{sumsOf, intervalOf}

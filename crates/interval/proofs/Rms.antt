@@ -12,8 +12,8 @@ use Rattle.rules.specs.Rms.{RootShown, RootSquelched}
 use Rattle.rules.specs.Source.{vrmsOf, figuresOf}
 use Rattle.rules.proofs.Places.{irms-at}
 use Rattle.rules.proofs.Rms.{vrms-root, irms-root}
-use Rattle.interval.specs.declared.close.Settings.{Settings}
-use Rattle.interval.specs.declared.close.Closed.{Closed}
+use Rattle.interval.specs.declared.Settings.{Settings}
+use Rattle.interval.specs.declared.Closed.{Closed}
 use Rattle.interval.specs.Whole.{worked, voltageSquares, flowOf, sumsOf, intervalOf}
 use Rattle.interval.specs.Close.{closedOf, registersAfter, sourceAfter}
 use Rattle.interval.specs.Rms.{RmsOf}

@@ -8,8 +8,8 @@ use lib.IntN.{ℤ, _+ℤ_, _*ℤ_, +ℤ-assoc, +ℤ-idl, +ℤ-idr}
 use lib.ListN.{length}
 use Rattle.card.specs.declared.Card.{Card}
 use Rattle.sample.specs.declared.Sums.{Sums}
-use Rattle.interval.specs.declared.close.Settings.{Settings}
-use Rattle.interval.specs.declared.close.Closed.{Closed}
+use Rattle.interval.specs.declared.Settings.{Settings}
+use Rattle.interval.specs.declared.Closed.{Closed}
 use Rattle.sample.specs.Sample.{voltage, phased}
 use Rattle.sample.specs.Sums.{Sample, joined, previous, summed, added, addedAll, emptied, noFlow}
 use Rattle.interval.specs.Whole.{worked, total, balance, largest, voltageSquares, flowOf, lastRaw, sumsOf, intervalOf}

@@ -8,10 +8,10 @@ use Rattle.card.specs.declared.Card.{Card}
 use Rattle.serial.specs.Serials.{noSerial}
 use Rattle.sample.specs.declared.Flow.{Flow}
 use Rattle.sample.specs.declared.Sums.{Sums}
-use Rattle.interval.specs.declared.close.Settings.{Settings}
-use Rattle.interval.specs.declared.close.Source.{Source}
-use Rattle.interval.specs.declared.close.Registers.{Registers}
-use Rattle.interval.specs.declared.close.Closed.{Closed}
+use Rattle.interval.specs.declared.Settings.{Settings}
+use Rattle.interval.specs.declared.Source.{Source}
+use Rattle.interval.specs.declared.Registers.{Registers}
+use Rattle.interval.specs.declared.Closed.{Closed}
 use Rattle.rules.specs.Source.{vrmsOf, figuresOf, wattOf}
 use Rattle.energy.specs.declared.Energy.{Energy}
 use Rattle.energy.specs.Energies.{plusAfter, minusAfter, noEnergy}

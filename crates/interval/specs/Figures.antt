@@ -7,8 +7,8 @@ use lib.ListN.{getD, set, length, replicate}
 use Rattle.card.specs.declared.Card.{Card}
 use Rattle.serial.specs.Serials.{noSerial}
 use Rattle.energy.specs.declared.Energy.{Energy}
-use Rattle.interval.specs.declared.close.Settings.{Settings}
-use Rattle.interval.specs.declared.close.Registers.{Registers}
+use Rattle.interval.specs.declared.Settings.{Settings}
+use Rattle.interval.specs.declared.Registers.{Registers}
 use Rattle.sample.specs.Sample.{voltage, phased}
 use Rattle.sample.specs.Sums.{Sample, addedAll, noSums}
 use Rattle.energy.specs.Energies.{plusAfter, noEnergy}

@@ -10,8 +10,8 @@ use lib.Signed.{_≤ℤ_}
 use Rattle.card.specs.declared.Card.{Card}
 use Rattle.sample.specs.declared.Sums.{Sums}
 use Rattle.address.specs.Slots.{off}
-use Rattle.interval.specs.declared.close.Settings.{Settings}
-use Rattle.interval.specs.declared.close.Closed.{Closed}
+use Rattle.interval.specs.declared.Settings.{Settings}
+use Rattle.interval.specs.declared.Closed.{Closed}
 use Rattle.tracking.specs.Tracking.{tracked}
 use Rattle.interval.specs.Close.{sevenOf, closedOf, noneClosed}
 

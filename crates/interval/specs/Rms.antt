@@ -9,7 +9,7 @@ use Rattle.card.specs.declared.Card.{Card}
 use Rattle.sample.specs.Fields.{irmsoffs, squelch}
 use Rattle.sample.specs.Sums.{Sample}
 use Rattle.rules.specs.Rms.{RootShown, RootSquelched}
-use Rattle.interval.specs.declared.close.Closed.{Closed}
+use Rattle.interval.specs.declared.Closed.{Closed}
 use Rattle.interval.specs.Whole.{worked, total}
 
 -- the mean square of the voltages (f is `.0`) or of the currents (`.1`) of corrected samples: sum / n, down

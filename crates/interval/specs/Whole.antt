@@ -9,8 +9,8 @@ use Rattle.number.specs.Sign.{squareOf}
 use Rattle.card.specs.declared.Card.{Card}
 use Rattle.sample.specs.declared.Flow.{Flow}
 use Rattle.sample.specs.declared.Sums.{Sums}
-use Rattle.interval.specs.declared.close.Settings.{Settings}
-use Rattle.interval.specs.declared.close.Closed.{Closed}
+use Rattle.interval.specs.declared.Settings.{Settings}
+use Rattle.interval.specs.declared.Closed.{Closed}
 use Rattle.sample.specs.Sample.{voltage, phased}
 use Rattle.sample.specs.Sums.{Sample}
 use Rattle.interval.specs.Close.{closedOf}

@@ -10,7 +10,7 @@ use lib.IntN.{ℤ}
 use Rattle.steps.specs.Answers.{OrRefusal, refused, accepted}
 use Rattle.steps.specs.Gauge.{Meter, latest, feeds, samples, waitsFor}
 use Rattle.card.specs.declared.Card.{Card}
-use Rattle.interval.specs.declared.close.Closed.{Closed}
+use Rattle.interval.specs.declared.Closed.{Closed}
 use Rattle.sample.specs.Sums.{Sample}
 use Rattle.meter.specs.declared.Meter.{Meter as Kept}
 use Rattle.meter.proofs.Sound.{Sound, sound-yes}

@@ -10,7 +10,7 @@ use lib.ListN.{length, take, drop, take-append-drop, length-take, length-drop, d
 use lib.Seq.{drop-drop}
 use borrow.Author.Tests.{eq-eqb, ne-eqb}
 use Rattle.steps.specs.Gauge.{Meter, workedOn, waitOver, begun, closing, joins, sample, samples}
-use Rattle.interval.specs.declared.close.Closed.{Closed}
+use Rattle.interval.specs.declared.Closed.{Closed}
 use Rattle.meter.specs.declared.Work.{Work}
 use Rattle.meter.specs.declared.Meter.{Meter as Kept}
 use Rattle.sample.specs.Sums.{Sample, added, addedAll}

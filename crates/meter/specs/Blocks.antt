@@ -7,7 +7,7 @@ use lib.IntN.{ℤ}
 use Rattle.steps.specs.Answers.{OrRefusal, refused, accepted}
 use Rattle.steps.specs.Gauge.{Meter, feeds, latest, waitsFor}
 use Rattle.card.specs.declared.Card.{Card}
-use Rattle.interval.specs.declared.close.Closed.{Closed}
+use Rattle.interval.specs.declared.Closed.{Closed}
 use Rattle.sample.specs.Sums.{ofAtMost, phaseInRange}
 use Rattle.meter.specs.declared.Meter.{Meter as Kept}
 use Rattle.steps.specs.declared.Answer.the-variants.{Done, Refused}

@@ -8,7 +8,7 @@ use Rattle.steps.specs.Answers.{OrRefusal, refused, accepted}
 use Rattle.steps.specs.Gauge.{Gauge, Meter}
 use Rattle.card.specs.declared.Card.{Card}
 use Rattle.sample.specs.declared.Sums.{Sums}
-use Rattle.interval.specs.declared.close.Closed.{Closed}
+use Rattle.interval.specs.declared.Closed.{Closed}
 use Rattle.sample.specs.Sample.{every24}
 use Rattle.sample.specs.Sums.{Sample, samplesIn, added, emptied}
 use Rattle.interval.specs.Close.{closedOf}

@@ -5,7 +5,7 @@ use aberzhan::Module;
 use address::byte_addr;
 use address::word_addr;
 use libc::STDOUT_FILENO;
-use port::holds::Reading;
+use port::Reading;
 use steps::Answer;
 
 // VRMS and the six figures, and both counts, by their byte addresses.

@@ -1,12 +1,12 @@
 -- Each public contract decides its outcome: of two results that it allows, each is the other.
 use mathlib.Core.Path.{refl, sym, _∙_}
 use Rattle.promise.specs.Determined.{Decided}
-use Rattle.port.proofs.holds.Held.nothing.Kinds as nothing-k
-use Rattle.port.proofs.holds.Held.nothing.Reads as nothing
-use Rattle.port.proofs.holds.Held.copy.Kinds as copy-k
-use Rattle.port.proofs.holds.Held.copy.Reads as copy
-use Rattle.port.proofs.holds.Held.look.Kinds as look-k
-use Rattle.port.proofs.holds.Held.look.Reads as look
+use Rattle.port.proofs.Held.nothing.Kinds as nothing-k
+use Rattle.port.proofs.Held.nothing.Reads as nothing
+use Rattle.port.proofs.Held.copy.Kinds as copy-k
+use Rattle.port.proofs.Held.copy.Reads as copy
+use Rattle.port.proofs.Held.look.Kinds as look-k
+use Rattle.port.proofs.Held.look.Reads as look
 
 pub nothing-decided : Decided 0 nothing-k.ps nothing-k.r nothing.Pre nothing.Post
 nothing-decided = record { always = λ κs a. tt; determined = λ κs a p z z′ ws ws′ q q′. (q ∙ sym q′, refl) }

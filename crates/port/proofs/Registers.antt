@@ -6,7 +6,7 @@ use native.Mathlib.Omega.{arith}
 use lib.IntN.{ℤ, pos}
 use lib.ListN.{getD, length, List·getD-append}
 use lib.Seq.{getD-append-add}
-use Rattle.interval.specs.declared.close.Registers.{Registers}
+use Rattle.interval.specs.declared.Registers.{Registers}
 use Rattle.port.specs.Reading.{registers}
 
 -- past the first part of a list, and past one element

@@ -2,10 +2,10 @@
 use lib.IntN.{ℤ}
 use Rattle.steps.specs.Answers.{OrRefusal, refused, accepted}
 use Rattle.steps.specs.declared.Answer.the-variants.{Done, Refused}
-use Rattle.port.specs.declared.holds.Held.{Held}
-use Rattle.port.specs.declared.holds.Copied.{Copied}
-use Rattle.port.specs.declared.holds.Reading.{Reading}
-use Rattle.port.specs.declared.holds.Reading.the-variants.{Value as ReadOut, Refused as NotRead}
+use Rattle.port.specs.declared.Held.{Held}
+use Rattle.port.specs.declared.Copied.{Copied}
+use Rattle.port.specs.declared.Reading.{Reading}
+use Rattle.port.specs.declared.Reading.the-variants.{Value as ReadOut, Refused as NotRead}
 use Rattle.port.specs.Holds.{nothingHeld}
 
 -- a hold

@@ -7,10 +7,10 @@ use lib.ListN.{replicate}
 use Rattle.steps.specs.Answers.{OrRefusal, refused, accepted}
 use Rattle.serial.specs.declared.Serial.{Serial}
 use Rattle.address.specs.declared.WordAddr.{WordAddr}
-use Rattle.interval.specs.declared.close.Closed.{Closed}
+use Rattle.interval.specs.declared.Closed.{Closed}
 use Rattle.address.specs.Slots.{off}
 use Rattle.interval.specs.Close.{noneClosed}
-use Rattle.port.specs.declared.holds.Held.{Held}
+use Rattle.port.specs.declared.Held.{Held}
 
 -- a port where nothing is held
 abbrev pub nothingHeld : Held

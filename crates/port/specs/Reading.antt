@@ -8,10 +8,10 @@ use lib.ListN.{getD}
 use Rattle.steps.specs.Answers.{OrRefusal, refused, accepted}
 use Rattle.address.specs.declared.WordAddr.{WordAddr}
 use Rattle.address.specs.declared.ByteAddr.{ByteAddr}
-use Rattle.interval.specs.declared.close.Registers.{Registers}
+use Rattle.interval.specs.declared.Registers.{Registers}
 use Rattle.address.specs.Addresses.{registerOf}
 use Rattle.address.specs.Slots.{off}
-use Rattle.port.specs.declared.holds.Held.{Held}
+use Rattle.port.specs.declared.Held.{Held}
 
 -- the 21 registers in the table's order: VRMS and the six figures of source A, PA_POS_CNT and PA_NEG_CNT, MIN1 to MIN6, MAX1 to MAX6
 unfoldable pub registers : Registers → List ℤ

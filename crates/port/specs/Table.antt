@@ -8,9 +8,9 @@ use lib.ListN.{replicate}
 use Rattle.steps.specs.Answers.{OrRefusal, refused, accepted}
 use Rattle.serial.specs.Serials.{noSerial}
 use Rattle.address.specs.declared.WordAddr.{WordAddr}
-use Rattle.interval.specs.declared.close.Registers.{Registers}
+use Rattle.interval.specs.declared.Registers.{Registers}
 use Rattle.address.specs.Slots.{off}
-use Rattle.port.specs.declared.holds.Held.{Held}
+use Rattle.port.specs.declared.Held.{Held}
 use Rattle.port.specs.Reading.{look}
 
 -- for any values of the registers

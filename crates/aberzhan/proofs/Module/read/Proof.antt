@@ -2,8 +2,8 @@
 use mathlib.Core.Path.{_≡_, sym, ap, _∙_}
 use mathlib.Core.Bool.{true, false}
 use mir.Facts.{toZ-ofZ}
-use Rattle.port.specs.declared.holds.Held.{Held}
-use Rattle.port.specs.declared.holds.Reading.{Reading}
+use Rattle.port.specs.declared.Held.{Held}
+use Rattle.port.specs.declared.Reading.{Reading}
 use Rattle.port.specs.Reading.{look}
 use Rattle.port.specs.Answers.{looked}
 use Rattle.aberzhan.specs.declared.Module.{Module}
