@@ -1,30 +1,37 @@
--- Roots, numbers, minima and maxima of every closed interval.
+-- Roots, squelching, numbers, minima and maxima of every closed interval.
 use mathlib.Core.Path.{sym, subst}
 use mathlib.Core.Bool.{Bool, true, false}
 use mathlib.Core.List.{List, [], _∷_}
 use mathlib.Core.Option.{Option, none, some}
 use lib.IntN.{ℤ}
 use Rattle.steps.specs.OneCard.{Interval}
+use Rattle.card.specs.declared.Card.{Card}
+use Rattle.sample.specs.Sums.{Sample}
 use Rattle.interval.specs.declared.Settings.{Settings}
 use Rattle.interval.specs.declared.Closed.{Closed}
 use Rattle.interval.specs.Whole.{lastRaw, intervalOf}
 use Rattle.interval.specs.Close.{noneClosed}
 use Rattle.interval.specs.History.{ClosedInTurn}
+use Rattle.interval.specs.Rms.{RmsOf}
+use Rattle.interval.specs.NoLoad.{SquelchedBy}
 use Rattle.interval.proofs.Rms.{interval-rms}
+use Rattle.interval.proofs.NoLoad.{squelched-by}
 use Rattle.interval.proofs.Histories.{whole-next, closes-followed}
 use Rattle.meter.specs.Core.{core}
 use Rattle.demands.specs.Program.{settings, closes}
 use Rattle.demands.specs.Intervals.{intervalsOf, rawBefore, wholes}
-use Rattle.demands.specs.History.{EachRms, EveryClose}
+use Rattle.demands.specs.History.{Saying, Each, EveryClose}
 use Rattle.demands.proofs.Wholes.{whole-intervals}
 
 module _ (t : Settings) where
-  each-root : (is : List (Interval core)) (fst : Bool) (r : Option ℤ) (old : Closed) → EachRms r is (wholes t fst r old is)
-  each-root [] fst r old = tt
-  each-root (i ∷ is) fst r old =
+  -- what holds of every interval holds of each of these
+  each : (P : Saying) → ((fst : Bool) (c : Card) (before : ℤ) (xs : List Sample) (old : Closed) → P c before xs old (intervalOf fst t c before xs old)) →
+      (is : List (Interval core)) (fst : Bool) (r : Option ℤ) (old : Closed) → Each P r old is (wholes t fst r old is)
+  each P all [] fst r old = tt
+  each P all (i ∷ is) fst r old =
       let before = rawBefore r (i .samples) in
       let z = intervalOf fst t (i .card) before (i .samples) old in
-      (interval-rms fst t (i .card) before (i .samples) old, each-root is false (some (lastRaw before (i .samples))) z)
+      (all fst (i .card) before (i .samples) old, each P all is false (some (lastRaw before (i .samples))) z)
 
   in-turn : (is : List (Interval core)) (fst : Bool) (r : Option ℤ) (old : Closed) → ClosedInTurn t fst old (wholes t fst r old is)
   in-turn [] fst r old = tt
@@ -36,8 +43,12 @@ module _ (t : Settings) where
 pub every-close : EveryClose
 every-close p =
     let t = settings p in
+    let is = intervalsOf p in
     let e = sym (whole-intervals p .whole) in
     record {
-      roots = subst (EachRms none (intervalsOf p)) e (each-root t (intervalsOf p) true none noneClosed);
-      followed = closes-followed t (closes p) (subst (ClosedInTurn t true noneClosed) e (in-turn t (intervalsOf p) true none noneClosed));
+      roots =
+          let P : Saying = λ c before xs old z. RmsOf c before xs z in
+          subst (Each P none noneClosed is) e (each t P (λ fst. interval-rms fst t) is true none noneClosed);
+      no-load = subst (Each SquelchedBy none noneClosed is) e (each t SquelchedBy (λ fst. squelched-by fst t) is true none noneClosed);
+      followed = closes-followed t (closes p) (subst (ClosedInTurn t true noneClosed) e (in-turn t is true none noneClosed));
     }

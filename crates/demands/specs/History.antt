@@ -1,28 +1,37 @@
--- Of every closed interval of every program: VRMS and IRMS are roots of its mean squares, its number counts the closes, and minima and maxima are
--- those of all that closed so far.
+-- Of every closed interval of every program: VRMS and IRMS are roots of its mean squares, it is squelched by its root alone and no energy comes of
+-- it then, its number counts the closes, and minima and maxima are those of all that closed so far.
 use mathlib.Core.List.{List, [], _∷_}
 use mathlib.Core.Option.{Option, none, some}
 use lib.IntN.{ℤ}
 use Rattle.steps.specs.OneCard.{Interval}
+use Rattle.card.specs.declared.Card.{Card}
+use Rattle.sample.specs.Sums.{Sample}
 use Rattle.interval.specs.declared.Closed.{Closed}
 use Rattle.interval.specs.Whole.{lastRaw}
+use Rattle.interval.specs.Close.{noneClosed}
 use Rattle.interval.specs.Rms.{RmsOf}
+use Rattle.interval.specs.NoLoad.{SquelchedBy}
 use Rattle.interval.specs.History.{EachFollowed}
 use Rattle.meter.specs.Core.{core}
 use Rattle.demands.specs.Program.{Program, settings, closes}
 use Rattle.demands.specs.Intervals.{intervalsOf, rawBefore}
 
--- the intervals and what they closed as, one by one; r is the raw current before the first, if one was seen
-abbrev pub EachRms : Option ℤ → List (Interval core) → List Closed → Type 0
-EachRms r [] [] = Unit {0}
-EachRms r [] (z ∷ zs) = ⊥
-EachRms r (i ∷ is) [] = ⊥
-EachRms r (i ∷ is) (z ∷ zs) =
+-- what is said of a closed interval: of its card, the raw current before its first sample, its samples, what closed right before it, and itself
+abbrev pub Saying : Type 1
+Saying = Card → ℤ → List Sample → Closed → Closed → Type 0
+
+-- it is so of the intervals and what they closed as, one by one; r is the raw current before the first, if one was seen; `old` closed before it
+abbrev pub Each : Saying → Option ℤ → Closed → List (Interval core) → List Closed → Type 0
+Each P r old [] [] = Unit {0}
+Each P r old [] (z ∷ zs) = ⊥
+Each P r old (i ∷ is) [] = ⊥
+Each P r old (i ∷ is) (z ∷ zs) =
     let before = rawBefore r (i .samples) in
-    RmsOf (i .card) before (i .samples) z × EachRms (some (lastRaw before (i .samples))) is zs
+    P (i .card) before (i .samples) old z × Each P (some (lastRaw before (i .samples))) z is zs
 
 pub record ProgramHistory (p : Program) : Type 0 where
-  pub roots : EachRms none (intervalsOf p) (closes p)
+  pub roots : Each (λ c before xs old z. RmsOf c before xs z) none noneClosed (intervalsOf p) (closes p)
+  pub no-load : Each SquelchedBy none noneClosed (intervalsOf p) (closes p)
   pub followed : EachFollowed (settings p) (closes p)
 
 abbrev pub EveryClose : Type 0

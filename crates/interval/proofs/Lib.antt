@@ -3,6 +3,7 @@ pub mod Directions
 pub mod Lends
 pub mod Wholes
 pub mod Rms
+pub mod NoLoad
 pub mod Histories
 pub mod Tabled
 pub mod Decided

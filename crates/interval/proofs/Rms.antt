@@ -19,7 +19,7 @@ use Rattle.interval.specs.Close.{closedOf, registersAfter, sourceAfter}
 use Rattle.interval.specs.Rms.{RmsOf}
 
 -- a sample is corrected into one
-worked-long : (c : Card) (before : ℤ) (xs : List Sample) → length (worked c before xs) ≡ length xs
+pub worked-long : (c : Card) (before : ℤ) (xs : List Sample) → length (worked c before xs) ≡ length xs
 unfolding worked
 worked-long c before [] = refl
 worked-long c before (x ∷ xs) = ap suc (worked-long c (x .1) xs)

@@ -1,4 +1,5 @@
--- Figures to check by, C1 to C12, as one table: what the definitions give, and what document 01 says. Gain one and other fields 0 unless said.
+-- Figures to check by, as two tables: C1 to C12 of document 01, and those of no load. Each line has what the definitions give, and what is
+-- said. Gain one and other fields 0 unless said.
 use Prim.Native.Nat.{ℕ, _-_}
 use mathlib.Core.Bool.{true}
 use mathlib.Core.List.{List, [], _∷_, map}
@@ -93,4 +94,29 @@ figures =
     ∷ (pos (twice .count), pos 2)
     ∷ (pos (twice .remainder), pos 40)
     ∷ (pos (beyond .count), pos 0)  -- C12
+    ∷ []
+
+-- IRMS, P, and the counts of energy taken in and given back, with B 1
+unfoldable pub loaded : Card → List Sample → List ℤ
+loaded c xs =
+    let a = interval c xs .a in
+    irms c xs ∷ watt c xs ∷ pos (a .plus .count) ∷ pos (a .minus .count) ∷ []
+
+-- one sample, at the highest voltage
+unfoldable pub atFull : ℤ → List Sample
+atFull i = (pos 8388607, i) ∷ []
+
+-- currents 5 and -5, each at the end of the range that has its sign
+unfoldable pub fives : List Sample
+fives = (pos 8388607, pos 5) ∷ (negsuc 8388606, negsuc 4) ∷ []
+
+unfoldable pub noLoadFigures : List (List ℤ × List ℤ)
+noLoadFigures =
+    (loaded (having 7 (pos 101) plain) (atFull (pos 100)), pos 0 ∷ pos 0 ∷ pos 0 ∷ pos 0 ∷ [])  -- SQUELCH above the root: squelched
+    ∷ (loaded (having 7 (pos 100) plain) (atFull (pos 100)), pos 100 ∷ pos 99 ∷ pos 99 ∷ pos 0 ∷ [])  -- at the root: not
+    ∷ (loaded (having 7 (pos 101) plain) (atFull (negsuc 99)), pos 0 ∷ pos 0 ∷ pos 0 ∷ pos 0 ∷ [])  -- and the other direction
+    ∷ (loaded (having 7 (pos 100) plain) (atFull (negsuc 99)), pos 100 ∷ negsuc 98 ∷ pos 0 ∷ pos 99 ∷ [])
+    ∷ (loaded plain (atFull (pos 0)), pos 0 ∷ pos 0 ∷ pos 0 ∷ pos 0 ∷ [])  -- no current, SQUELCH 0
+    ∷ (loaded (having 6 (pos 6) plain) fives, pos 0 ∷ pos 4 ∷ pos 8 ∷ pos 0 ∷ [])  -- root 0 and SQUELCH 0: P stays, and 4 times 2 is counted
+    ∷ (loaded (having 7 (pos 1) (having 6 (pos 6) plain)) fives, pos 0 ∷ pos 0 ∷ pos 0 ∷ pos 0 ∷ [])  -- root 0 and SQUELCH 1: squelched
     ∷ []

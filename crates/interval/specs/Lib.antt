@@ -2,5 +2,6 @@
 pub mod Close
 pub mod Whole
 pub mod Rms
+pub mod NoLoad
 pub mod History
 pub mod Figures

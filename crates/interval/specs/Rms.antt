@@ -16,7 +16,11 @@ use Rattle.interval.specs.Whole.{worked, total}
 abbrev pub meanSquare : (Sample → ℤ) → List Sample → ℕ
 meanSquare f ys = total (λ (y : Sample). squareOf (f y)) ys / length ys
 
+-- of this IRMS is the root: the mean square of the currents, less IRMSOFFS squared and not below 0
+abbrev pub currentSquare : Card → ℤ → List Sample → ℕ
+currentSquare c before xs = meanSquare (λ (y : Sample). y .1) (worked c before xs) - irmsoffs c * irmsoffs c
+
 -- the interval z has these raw samples, worked by card c; `before` is the raw current before the first
 pub record RmsOf (c : Card) (before : ℤ) (xs : List Sample) (z : Closed) : Type 0 where
   pub vrms : RootShown (meanSquare (λ (y : Sample). y .0) (worked c before xs)) (z .regs .vrms)
-  pub irms : RootSquelched (meanSquare (λ (y : Sample). y .1) (worked c before xs) - irmsoffs c * irmsoffs c) (squelch c) (getD (z .regs .a .figures) 0 (pos 0))
+  pub irms : RootSquelched (currentSquare c before xs) (squelch c) (getD (z .regs .a .figures) 0 (pos 0))

@@ -4,7 +4,7 @@ use mathlib.Core.Path.{_≡_}
 use mathlib.Core.Bool.{Bool, true, false, cond}
 use native.Mathlib.Nat.{div-zero, mul-le-mul, le-refl}
 use native.Mathlib.Omega.{arith}
-use lib.Dec.{eqb, ltb}
+use lib.Dec.{eqb}
 use lib.IntN.{ℤ, pos, negsuc, _*ℤ_}
 use mir.Syntax.{w32, w64}
 use mir.Val.{SFits, toZ}
@@ -17,7 +17,7 @@ use Rattle.number.proofs.Fits.{within, size-of, size-nat, size-mul, size-fits}
 use Rattle.range.proofs.Ranges.{held-is, clipped-is}
 use Rattle.number.proofs.Signs.{lessened-is}
 use Rattle.root.proofs.Roots.{root-of}
-use Rattle.rules.specs.Rules.{rms, squelched, apparentOf, crestOf}
+use Rattle.rules.specs.Rules.{rms, apparentOf, crestOf}
 
 -- ---- the root of the mean square
 root-none : (m : ℕ) → m ≡ 0 → min (rootOf m) 8388607 ≡ 0
@@ -37,14 +37,6 @@ rms-of-none sum less = root-none (sum / 0 - less) (omega (arith, div-zero sum))
 pub rms-most : (sum n less : ℕ) → rms sum n less ≤ 8388607
 unfolding rms
 rms-most sum n less = omega arith
-
-pub squelched-most : (q r : ℕ) → squelched q r ≤ r
-unfolding squelched
-squelched-most q r = by (ltb r q)
-  where
-    by : (t : Bool) → cond t 0 r ≤ r
-    by true = omega arith
-    by false = omega arith
 
 pub apparent-most : (v i : ℕ) → v ≤ 8388607 → i ≤ 8388607 → apparentOf v i ≤ 8388607
 unfolding apparentOf

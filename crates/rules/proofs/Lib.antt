@@ -2,4 +2,5 @@
 pub mod Bounds
 pub mod Places
 pub mod Rms
+pub mod NoLoad
 pub mod Decided

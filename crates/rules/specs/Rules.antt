@@ -1,6 +1,6 @@
 -- The registers' rules at the close, one for each line of document 01, over whole numbers.
 use Prim.Native.Nat.{ℕ, _*_, _-_, _/_}
-use mathlib.Core.Bool.{cond}
+use mathlib.Core.Bool.{Bool, cond}
 use lib.Dec.{eqb, ltb}
 use lib.IntN.{ℤ, pos, negsuc, _*ℤ_}
 use Rattle.range.specs.Range.{clipped, capped, heldWithin}
@@ -12,9 +12,9 @@ use Rattle.root.specs.Root.{rootOf}
 unfoldable pub rms : ℕ → ℕ → ℕ → ℕ
 rms sum n less = capped (rootOf (sum / n - less))
 
--- 0 if less than SQUELCH
-unfoldable pub squelched : ℕ → ℕ → ℕ
-squelched squelch r = cond (ltb r squelch) 0 r
+-- squelched: that root is below SQUELCH; so with SQUELCH 0 nothing is
+unfoldable pub squelched : ℕ → ℕ → Bool
+squelched squelch root = ltb root squelch
 
 -- sum of products / (n times 2^23), toward zero, clipped; then its size less POFFS, or 0 if that is not positive, with its sign kept
 unfoldable pub activeOf : ℤ → ℕ → ℕ → ℤ

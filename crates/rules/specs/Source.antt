@@ -1,5 +1,6 @@
 -- The registers of one current source, of a card, the interval's sums and the true number n of its samples.
 use Prim.Native.Nat.{ℕ, _*_}
+use mathlib.Core.Bool.{Bool, cond}
 use mathlib.Core.List.{List, [], _∷_}
 use lib.IntN.{ℤ, pos}
 use Rattle.range.specs.Range.{capped}
@@ -12,13 +13,20 @@ use Rattle.rules.specs.Rules.{rms, squelched, activeOf, apparentOf, fact
 unfoldable pub vrmsOf : ℕ → ℕ → ℕ
 vrmsOf vv n = rms vv n 0
 
--- IRMS: the mean square less IRMSOFFS squared; 0 if less than SQUELCH
-unfoldable pub irmsOf : Card → Flow → ℕ → ℕ
-irmsOf c f n = squelched (squelch c) (rms (f .ii) n (irmsoffs c * irmsoffs c))
+-- the root of the current, by which an interval is squelched: of the mean square less IRMSOFFS squared
+unfoldable pub currentRoot : Card → Flow → ℕ → ℕ
+currentRoot c f n = rms (f .ii) n (irmsoffs c * irmsoffs c)
 
--- P
+unfoldable pub isSquelched : Card → Flow → ℕ → Bool
+isSquelched c f n = squelched (squelch c) (currentRoot c f n)
+
+-- IRMS: that root; 0 if squelched
+unfoldable pub irmsOf : Card → Flow → ℕ → ℕ
+irmsOf c f n = cond (isSquelched c f n) 0 (currentRoot c f n)
+
+-- P; 0 if squelched
 unfoldable pub wattOf : Card → Flow → ℕ → ℤ
-wattOf c f n = activeOf (f .vi) n (poffs c)
+wattOf c f n = cond (isSquelched c f n) (pos 0) (activeOf (f .vi) n (poffs c))
 
 -- IPEAK: largest size of the current, at most 8,388,607
 unfoldable pub ipeakOf : Flow → ℕ

@@ -4,7 +4,8 @@ ghost use Prim.Native.Nat.{_≤_, _*_};
 ghost use lib.IntN.{natAbs};
 ghost use Rattle.range.specs.Range.{capped};
 ghost use Rattle.rules.specs.Rules.{rms, squelched, activeOf, apparentOf, factorOf, crestOf};
-ghost use Rattle.rules.specs.Source.{vrmsOf, irmsOf, wattOf, ipeakOf, six, figuresOf};
+ghost use Rattle.sample.specs.Fields.{squelch, poffs};
+ghost use Rattle.rules.specs.Source.{vrmsOf, currentRoot, ipeakOf, six, figuresOf};
 use card::Card;
 use card::names::IRMSOFFS;
 use card::names::POFFS;
@@ -26,16 +27,6 @@ fn root_mean_square(sum: u64, n: u32, less: u64) -> u32
         return 0;
     }
     range::cap(root::root(mean - less))
-}
-
-fn squelch(level: i32, r: u32) -> u32
-    ensures { λ x. ⌜ x ≡ squelched (natAbs level) r ⌝ }
-{
-    if (r as u64) < number::size(level as i64) {
-        0
-    } else {
-        r
-    }
 }
 
 fn active(sum: i64, n: u32, poffs: i32) -> i32
@@ -77,19 +68,25 @@ pub fn vrms(vv: u64, n: u32) -> u32
     root_mean_square(vv, n, 0)
 }
 
-fn irms(c: Card, f: Flow, n: u32) -> u32
-    ensures { λ r. ⌜ r ≡ irmsOf c f n ⌝ }
+// The root of the current.
+fn current_root(c: Card, f: Flow, n: u32) -> u32
+    ensures { λ r. ⌜ r ≡ currentRoot c f n ⌝ }
 {
     let x = c.fields;
-    squelch(
-        x[SQUELCH],
-        root_mean_square(f.ii, n, number::square(x[IRMSOFFS])),
-    )
+    root_mean_square(f.ii, n, number::square(x[IRMSOFFS]))
 }
 
-// P of one current source.
+// Whether an interval with that root is squelched.
+fn is_squelched(c: Card, root: u32) -> bool
+    ensures { λ r. ⌜ r ≡ squelched (squelch c) root ⌝ }
+{
+    let x = c.fields;
+    (root as u64) < number::size(x[SQUELCH] as i64)
+}
+
+// P where the interval is not squelched.
 fn watt(c: Card, f: Flow, n: u32) -> i32
-    ensures { λ r. ⌜ r ≡ wattOf c f n ⌝ }
+    ensures { λ r. ⌜ r ≡ activeOf (f .vi) n (poffs c) ⌝ }
 {
     let x = c.fields;
     active(f.vi, n, x[POFFS])
@@ -116,8 +113,12 @@ fn lay(v: u32, i: u32, peak: u32, p: i32) -> [i32; 6]
 pub fn figures(c: Card, v: u32, f: Flow, n: u32) -> [i32; 6]
     ensures { λ r. ⌜ r ≡ figuresOf c (capped v) f n ⌝ }
 {
-    let i = irms(c, f, n);
-    let k = ipeak(f);
+    let volts = range::cap(v as u64);
+    let root = current_root(c, f, n);
+    let peak = ipeak(f);
     let p = watt(c, f, n);
-    lay(range::cap(v as u64), i, k, p)
+    if is_squelched(c, root) {
+        return lay(volts, 0, peak, 0);
+    }
+    lay(volts, root, peak, p)
 }

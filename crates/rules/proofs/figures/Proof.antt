@@ -1,17 +1,21 @@
 -- `figures` meets its contract.
 use borrow.Author.Needs.{needs, sfits-of}
 use native.Mathlib.Omega.{arith}
-use native.Mathlib.Nat.{le-trans}
+use mathlib.Core.Path.{_≡_, sym, _∙_}
+use mathlib.Core.Bool.{true, false}
 use mir.Syntax.{w32}
 use mir.Val.{SFits}
 use mir.Facts.{toZ-ofZ}
-use Rattle.rules.specs.Source.{figuresOf, irmsOf, ipeakOf}
-use Rattle.rules.proofs.Bounds.{rms-most, squelched-most}
+use Rattle.rules.specs.Source.{isSquelched, currentRoot, irmsOf, wattOf, ipeakOf, figuresOf}
+use Rattle.rules.proofs.Bounds.{rms-most}
 use Rattle.rules.proofs.figures.Statement.{statement}
 use Rattle.rules.proofs.figures.Tie as tie
 
-irms-requires : tie.Need-irms-requires
-irms-requires c κs = search needs
+cap-requires : tie.Need-cap-requires
+cap-requires c κs = search needs
+
+current-root-requires : tie.Need-current-root-requires
+current-root-requires c κs = search needs
 
 ipeak-requires : tie.Need-ipeak-requires
 ipeak-requires c κs = search needs
@@ -19,30 +23,54 @@ ipeak-requires c κs = search needs
 watt-requires : tie.Need-watt-requires
 watt-requires c κs = search needs
 
-cap-requires : tie.Need-cap-requires
-cap-requires c κs = search needs
+is-squelched-requires : tie.Need-is-squelched-requires
+is-squelched-requires c κs = search needs
 
 lay-requires : tie.Need-lay-requires
-unfolding irmsOf ipeakOf
+unfolding ipeakOf
 lay-requires c κs =
-    let k = c .before .before in
-    let i = k .before in (
-      rw (c .cap .ensures) (omega arith),
-      rw (i .irms .ensures) (le-trans (squelched-most _ _) (rms-most _ _ _)),
-      rw (k .ipeak .ensures) (omega arith),
-    )
+    let k = c .before .before .before in
+    let v = k .before .before in (rw (v .cap .ensures) (omega arith), omega arith, rw (k .ipeak .ensures) (omega arith))
 
 returns : tie.Need-returns
-unfolding figuresOf
+unfolding figuresOf irmsOf wattOf isSquelched
 returns c =
-    let v = c .before in
-    let p = v .before in
+    let s = c .before .before in
+    let k = s .before .before in
+    let r = k .before in
+    let v = r .before in
+    let h = sym (s .is-squelched .ensures) ∙ c .before .if1 .taken in
+    rw (c .lay .ensures, v .cap .ensures, k .ipeak .ensures, rw (r .current-root .ensures) at h)
+
+lay-requires-2 : tie.Need-lay-requires-2
+unfolding ipeakOf currentRoot
+lay-requires-2 c κs =
+    let k = c .before .before .before in
+    let r = k .before in
+    let v = r .before in (rw (v .cap .ensures) (omega arith), rw (r .current-root .ensures) (rms-most _ _ _), rw (k .ipeak .ensures) (omega arith))
+
+returns-2 : tie.Need-returns-2
+unfolding figuresOf irmsOf wattOf isSquelched
+returns-2 c =
+    let s = c .before .before in
+    let p = s .before in
     let k = p .before in
-    let i = k .before in
+    let r = k .before in
+    let v = r .before in
+    let h = sym (s .is-squelched .ensures) ∙ c .before .if1 .left in
     let hp : SFits w32 (p .watt .result) = sfits-of (p .watt .ok) in
-    rw (c .lay .ensures, toZ-ofZ hp, v .cap .ensures, i .irms .ensures, k .ipeak .ensures, p .watt .ensures)
+    rw (c .lay2 .ensures, toZ-ofZ hp, v .cap .ensures, k .ipeak .ensures, rw (r .current-root .ensures) at h, r .current-root .ensures, p .watt .ensures)
 
 pub figures-spec : {M : Type 1} → statement M
 figures-spec =
     tie.close
-    (tie.spec irms-requires ipeak-requires watt-requires cap-requires lay-requires returns)
+    (tie.spec
+    cap-requires
+    current-root-requires
+    ipeak-requires
+    watt-requires
+    is-squelched-requires
+    lay-requires
+    returns
+    lay-requires-2
+    returns-2)

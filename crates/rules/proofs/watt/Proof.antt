@@ -5,7 +5,6 @@ use lib.ListN.{getD}
 use mir.Syntax.{w32, w64}
 use mir.Val.{SFits}
 use mir.Facts.{toZ-ofZ}
-use Rattle.rules.specs.Source.{wattOf}
 use Rattle.rules.proofs.watt.Statement.{statement}
 use Rattle.rules.proofs.watt.Tie as tie
 
@@ -16,7 +15,6 @@ active-requires : tie.Need-active-requires
 active-requires c κs = search needs
 
 returns : tie.Need-returns
-unfolding wattOf
 returns c =
     let start = c .before .before .before .before in
     let h7 : SFits w32 (getD (start .args .c .fields) 7 (pos 0)) = search needs in
