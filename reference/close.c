@@ -11,13 +11,13 @@ static int64_t voltage_rms(const struct module *module)
     return at_most(root_down(module->interval.voltage_squares / module->samples), HIGHEST);
 }
 
-static int64_t current_rms(const struct module *module)
+/* What SQUELCH is held against: the root with IRMSOFFS taken off. */
+static int64_t current_root(const struct module *module)
 {
     const int64_t *field = module->card.field;
     int64_t square = module->interval.current_squares / module->samples - field[IRMSOFFS] * field[IRMSOFFS];
-    int64_t root = at_most(root_down(square < 0 ? 0 : square), HIGHEST);
 
-    return root < field[SQUELCH] ? 0 : root;
+    return at_most(root_down(square < 0 ? 0 : square), HIGHEST);
 }
 
 /* C divides toward zero. N times 2^23 is at most 2^35. */
@@ -64,12 +64,17 @@ static void count_energy(struct module *module, int64_t power)
         energy_advance(energy, size_of(power) * module->samples, module->bucket);
 }
 
+/* A squelched interval has no current and no power, and so no energy (document 02, A1). The root decides and not IA_RMS:
+   a root of 0 is not below a SQUELCH of 0, and then P stays. */
 static void work_registers(struct module *module, int64_t plain[PLAIN])
 {
+    int64_t root = current_root(module);
+    bool squelched = root < module->card.field[SQUELCH];
+
     plain[VA_RMS] = voltage_rms(module);
-    plain[IA_RMS] = current_rms(module);
+    plain[IA_RMS] = squelched ? 0 : root;
     plain[IA_PEAK] = at_most(module->interval.peak, HIGHEST);
-    plain[WATT_A] = active_power(module);
+    plain[WATT_A] = squelched ? 0 : active_power(module);
     plain[VA_A] = plain[VA_RMS] * plain[IA_RMS] / 8388608;
     plain[PFA] = power_factor(plain[WATT_A], plain[VA_A]);
     plain[IA_CREST] = crest(plain[IA_PEAK], plain[IA_RMS]);

@@ -193,8 +193,7 @@ static void read_one(struct belief *belief, int port)
         hold(belief, port);
 }
 
-/* A hold, and a read of every register. */
-static int whole_reading(struct belief *belief, int port)
+int whole_reading(struct belief *belief, int port)
 {
     hold(belief, port);
     if (!belief->port[port].held)
@@ -259,6 +258,8 @@ int main(int argc, char **argv)
     if (chance(80))
         put_full_side();
     whole_reading(&belief, (int)draw(2));
+    if (chance(70))
+        put_no_load(&belief);
     put_last_line();
     return fflush(stdout) == 0 ? 0 : 1;
 }

@@ -61,6 +61,12 @@ void put_long_line(void);
 void put_full_side(void);
 void put_last_line(void);
 
+/* A hold, and a read of every register: says how many steps it took (make-script.c). */
+int whole_reading(struct belief *belief, int port);
+
+/* Intervals around SQUELCH, on a fresh module (script-no-load.c). */
+void put_no_load(struct belief *belief);
+
 /* Names that are none, or stand in the wrong place (script-names.c). */
 void put_odd_name(void);
 
