@@ -1,14 +1,13 @@
 -- Every interval is squelched by its root alone, and no energy comes of one that is.
-use Prim.Native.Nat.{ℕ, _*_, _-_, _/_, _≤_, _<_}
+use Prim.Native.Nat.{ℕ, _*_, _-_, _/_}
 use mathlib.Core.Path.{_≡_, ap, subst, _∙_}
 use mathlib.Core.Bool.{Bool, true}
 use mathlib.Core.List.{List}
 use lib.IntN.{ℤ, pos}
 use lib.ListN.{length, getD}
-use Rattle.range.specs.Range.{capped}
 use Rattle.root.specs.Root.{Root}
 use Rattle.card.specs.declared.Card.{Card}
-use Rattle.sample.specs.Fields.{irmsoffs, squelch}
+use Rattle.sample.specs.Fields.{irmsoffs}
 use Rattle.sample.specs.Sums.{Sample}
 use Rattle.rules.specs.Source.{vrmsOf, isSquelched}
 use Rattle.rules.proofs.Places.{watt-at}

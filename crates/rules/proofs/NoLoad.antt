@@ -1,6 +1,6 @@
 -- What squelching does: which interval is squelched, what its figures are then, and P of one that is not.
 use Prim.Native.Nat.{ℕ, _*_, _-_, _/_, _≤_, _<_}
-use mathlib.Core.Path.{_≡_, refl, sym, ap, subst}
+use mathlib.Core.Path.{_≡_, ap, subst}
 use mathlib.Core.Bool.{true, false}
 use mathlib.Core.List.{[], _∷_}
 use native.Mathlib.Omega.{arith}
