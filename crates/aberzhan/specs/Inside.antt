@@ -16,7 +16,7 @@ use Rattle.port.specs.declared.holds.Copied.{Copied}
 use Rattle.aberzhan.specs.declared.Module.{Module}
 use Rattle.aberzhan.specs.declared.Stepped.{Stepped}
 use Rattle.aberzhan.specs.declared.Holding.{Holding}
-use Rattle.aberzhan.specs.Module.{deskOf, heldOf, withDesk, withHeld, withMeter, refusal, notHeld}
+use Rattle.aberzhan.specs.Module.{deskOf, heldOf, withDesk, withHeld, withMeter}
 
 unfoldable pub isPort : ℤ → Bool
 isPort p = leZ (pos 0) p && leZ p (pos 1)
