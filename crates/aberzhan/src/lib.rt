@@ -94,7 +94,7 @@ impl Module {
     pub fn start(n: i64, b: i64, track: [WordAddr; 6]) -> Stepped
         ensures { λ r. ⌜ r ≡ startOf n b track ⌝ }
     {
-        let r = starting::start(n, b, track);
+        let r = meter::start(n, b, track);
         let answer = r.answer;
         let after = Module::fresh(r.after);
         Stepped { answer, after }

@@ -1,4 +1,4 @@
-// Samples into intervals: the card that comes into force, and a block.
+// Samples into intervals: the start, the card that comes into force, and a block.
 ghost use mathlib.Core.Path.{_≡_};
 ghost use mathlib.Core.Bool.{true};
 ghost use Prim.Native.Nat.{_+_, _-_, _≤_, _<_, min};
@@ -7,11 +7,14 @@ ghost use Rattle.sample.specs.Sums.{samplesIn};
 ghost use Rattle.meter.specs.Core.{withSums, closedWork};
 ghost use Rattle.meter.specs.Inside.{begunOf, endOf, stretchOf, fedOf};
 ghost use Rattle.meter.specs.Blocks.{soundOf, carded, waitOf, blockOf};
+ghost use Rattle.meter.specs.Starting.{freshOf, startOf, notStarted};
+use address::WordAddr;
 use card::Card;
 use interval::Closed;
 use interval::Settings;
 use sample::Sums;
 use sample::phase_in_range;
+use serial::Serial;
 use steps::Answer;
 
 // What outlives an interval, with the sums of the one that runs. any: whether any interval has; last: the one that closed last.
@@ -188,4 +191,55 @@ impl Meter {
             after: self,
         }
     }
+}
+
+// No card, no interval, counts and remainders 0.
+fn fresh(n: u32, b: u64, track: [WordAddr; 6]) -> Meter
+    ensures { λ r. ⌜ r ≡ freshOf n b track ⌝ }
+{
+    let none = Serial::none();
+    let c = Card {
+        serial: none,
+        fields: [0; 8],
+    };
+    Meter {
+        waits: false,
+        waiting: c,
+        forced: false,
+        force: c,
+        taken: 0,
+        work: Work {
+            settings: Settings { n, b, track },
+            sums: Sums::none(),
+            any: false,
+            last: Closed::none(),
+        },
+    }
+}
+
+fn not_started() -> Stepped
+    ensures { λ r. ⌜ r ≡ notStarted ⌝ }
+{
+    let m = fresh(1, 1, [WordAddr(0); 6]);
+    Stepped {
+        answer: Answer::Refused(7),
+        after: m,
+    }
+}
+
+// A start with N, B and the six words to track: 7.
+pub fn start(n: i64, b: i64, track: [WordAddr; 6]) -> Stepped
+    ensures { λ r. ⌜ r ≡ startOf n b track ⌝ }
+{
+    if (1 <= n) & (n <= 4096) & (1 <= b) & (b <= 281474976710655) {
+        if address::all_slots(track) {
+            let m = fresh(n as u32, b as u64, track);
+            return Stepped {
+                answer: Answer::Done,
+                after: m,
+            };
+        }
+        return not_started();
+    }
+    not_started()
 }
