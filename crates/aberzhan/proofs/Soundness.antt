@@ -23,10 +23,10 @@ use Rattle.address.specs.Slots.{off, everySlot}
 use Rattle.sample.specs.Inside.{Phased}
 use Rattle.meter.proofs.Sound.{Sound as SoundMeter}
 use Rattle.meter.specs.Core.{core, samplesOf, keptOf}
-use Rattle.starting.specs.Starting.{numbersOk, freshOf, notStarted, startOf as meterStart}
+use Rattle.meter.specs.Starting.{numbersOk, freshOf, notStarted, startOf as meterStart}
 use Rattle.steps.specs.declared.Answer.the-variants.{Done}
 use Rattle.meter.proofs.Agreement.{feeds-sound, wait-sound}
-use Rattle.starting.proofs.Starts.{numbers-in}
+use Rattle.meter.proofs.Starts.{numbers-in}
 use Rattle.desk.specs.declared.Desk.{Desk}
 use Rattle.aberzhan.specs.declared.Module.{Module}
 use Rattle.desk.specs.Desks.{Edit, openWith, writeField, shutDesk, emptyCard, withField, opening, writing, allWritten, cardOn, finished}

@@ -1,27 +1,34 @@
 -- Laws of the steps: what the code puts together at a port is what the step's definition gives.
 use Prim.Native.Nat.{ℕ}
 use mathlib.Core.Path.{_≡_, refl, sym, ap, _∙_}
-use mathlib.Core.Bool.{true, false}
+use mathlib.Core.Bool.{Bool, true, false}
 use mathlib.Core.List.{List}
 use mathlib.Core.Option.{Option}
 use lib.IntN.{ℤ}
 use Rattle.steps.specs.Answers.{OrRefusal, refused, accepted}
 use Rattle.steps.specs.Port.{Port, port0, port1}
+use Rattle.steps.specs.declared.Answer.the-variants.{Done}
 use Rattle.card.specs.declared.Card.{Card}
 use Rattle.address.specs.declared.ByteAddr.{ByteAddr}
+use Rattle.address.specs.declared.WordAddr.{WordAddr}
+use Rattle.interval.specs.declared.Closed.{Closed}
+use Rattle.meter.specs.Blocks.{waitOf}
 use Rattle.desk.specs.declared.Desk.{Desk}
-use Rattle.port.specs.declared.Held.{Held}
 use Rattle.port.specs.declared.Reading.the-variants.{Refused as NotRead}
-use Rattle.desk.specs.Desks.{opening, writing, finished, dropping}
-use Rattle.port.specs.Holds.{copied}
+use Rattle.desk.specs.Desks.{shutDesk, opening, writing, finished, dropping}
+use Rattle.port.specs.Holds.{copyOf, copied}
 use Rattle.port.specs.Reading.{look}
 use Rattle.desk.specs.Answers.{desked, finishing}
 use Rattle.port.specs.Answers.{copying, looked}
 use Rattle.aberzhan.specs.declared.Module.{Module}
+use Rattle.aberzhan.specs.declared.Stepped.{Stepped}
 use Rattle.aberzhan.specs.declared.Looked.{Looked}
-use Rattle.aberzhan.specs.Module.{deskOf, heldOf, withDesk, portAt, atPort, refusal, atDesk, committing, notHeld, holding, openOf, writeOf, commitOf, dropOf, holdOf, readOf}
-use Rattle.aberzhan.specs.Inside.{isPort, sideOf, deskAt, holdAt, deskPut, holdPut, deskDid, committed, held}
+use Rattle.aberzhan.specs.Module.{deskOf, heldOf, withDesk, withMeter, portAt, atPort, refusal, atDesk, committing, notHeld, holding, openOf, writeOf, commitOf, dropOf, holdOf, readOf}
+use Rattle.aberzhan.specs.Inside.{isPort, sideOf, deskAt, holdAt, deskPut, holdPut, deskDid, waitsIf, committed, held}
 use Rattle.aberzhan.proofs.Sides.{at-side, no-side}
+
+abbrev done : Module → Stepped
+done m = record { answer = Done; after = m }
 
 -- a desk put back where it stood
 same-desk : (m : Module) (s : Port) → withDesk s (deskOf m s) m ≡ m
@@ -35,15 +42,19 @@ module _ (m : Module) (p : ℤ) where
   desk-did (refused n) = ap (refusal n) (same-desk m (sideOf p))
   desk-did (accepted d) = refl
 
-  committed-is : (q : OrRefusal Card) → committed m p (finishing (deskAt m p) q) ≡ committing m (sideOf p) q
-  unfolding committed deskPut
-  committed-is (refused n) = refl
-  committed-is (accepted c) = refl
+  committed-by : (s : Port) (c : Card) → withDesk s shutDesk (withMeter (waitOf c (m .meter)) m) ≡ withMeter (waitOf c (m .meter)) (withDesk s shutDesk m)
+  committed-by port0 c = refl
+  committed-by port1 c = refl
 
-  held-is : (q : OrRefusal Held) → held m p (copying q) ≡ holding m (sideOf p) q
-  unfolding held holdPut
-  held-is (refused n) = refl
-  held-is (accepted h) = refl
+  committed-is : (q : OrRefusal Card) → committed m p (finishing (deskAt m p) q) ≡ committing m (sideOf p) q
+  unfolding committed waitsIf deskDid deskPut deskAt
+  committed-is (refused n) = ap (refusal n) (same-desk m (sideOf p))
+  committed-is (accepted c) = ap done (committed-by (sideOf p) c)
+
+  held-is : (any : Bool) (last : Closed) (track : List WordAddr) → let q = copied any last track in held m p (copying q) ≡ holding m (sideOf p) q
+  unfolding held holdPut copied copyOf
+  held-is true last track = refl
+  held-is false last track = refl
 
   -- ---- the number names a port, or none
   module _ {A : Type 0} (refusing : A) (act : Port → A) where
@@ -75,7 +86,7 @@ module _ (m : Module) (p : ℤ) where
     holds =
         let w = m .meter .work in
         let q = copied (w .any) (w .last) (w .settings .track) in
-        held-is q ∙ sym (at-port (notHeld 8 m) (λ s. holding m s q) h)
+        held-is (w .any) (w .last) (w .settings .track) ∙ sym (at-port (notHeld 8 m) (λ s. holding m s q) h)
 
     pub reads : (a : ByteAddr) → _≡_ {A = Looked} (record { answer = looked (look (holdAt m p) a); after = m }) (readOf m p a)
     unfolding readOf holdAt

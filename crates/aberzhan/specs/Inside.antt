@@ -5,6 +5,8 @@ use lib.Signed.{leZ, ltZ}
 use Rattle.steps.specs.Port.{Port, port0, port1}
 use Rattle.steps.specs.declared.Answer.{Answer}
 use Rattle.steps.specs.declared.Answer.the-variants.{Done, Refused}
+use Rattle.card.specs.declared.Card.{Card}
+use Rattle.meter.specs.declared.Meter.{Meter}
 use Rattle.meter.specs.Blocks.{waitOf}
 use Rattle.desk.specs.declared.Desk.{Desk}
 use Rattle.desk.specs.declared.Desked.{Desked}
@@ -14,7 +16,7 @@ use Rattle.port.specs.declared.Copied.{Copied}
 use Rattle.aberzhan.specs.declared.Module.{Module}
 use Rattle.aberzhan.specs.declared.Stepped.{Stepped}
 use Rattle.aberzhan.specs.declared.Holding.{Holding}
-use Rattle.aberzhan.specs.Module.{deskOf, heldOf, withDesk, withHeld, withMeter, refusal, notHeld}
+use Rattle.aberzhan.specs.Module.{deskOf, heldOf, withDesk, withHeld, withMeter}
 
 unfoldable pub isPort : ℤ → Bool
 isPort p = leZ (pos 0) p && leZ p (pos 1)
@@ -39,18 +41,17 @@ holdPut m port h = withHeld (sideOf port) h m
 unfoldable pub deskDid : Module → ℤ → Desked → Stepped
 deskDid m port did = record { answer = did .answer; after = deskPut m port (did .after) }
 
+-- the card waits; where the desk refused, the meter is as it came
+unfoldable pub waitsIf : Answer → Card → Meter → Meter
+waitsIf Done c m = waitOf c m
+waitsIf (Refused n) c m = m
+
 -- what comes of a commit there
-abbrev pub committedBy : Answer → Module → ℤ → Finished → Stepped
-committedBy Done m port f = record { answer = Done; after = withMeter (waitOf (f .card) (m .meter)) (deskPut m port (f .after)) }
-committedBy (Refused n) m port f = refusal n m
-
 unfoldable pub committed : Module → ℤ → Finished → Stepped
-committed m port f = committedBy (f .answer) m port f
+committed m port f = deskDid (withMeter (waitsIf (f .answer) (f .card) (m .meter)) m) port (record { answer = f .answer; after = f .after })
 
--- and of a hold
-abbrev pub heldBy : Answer → Module → ℤ → Held → Holding
-heldBy Done m port h = record { answer = Done; number = h .closed .number; serial = h .closed .serial; after = holdPut m port h }
-heldBy (Refused n) m port h = notHeld n m
-
+-- and of a hold; where nothing was copied, the number is 0 and the serial none
 unfoldable pub held : Module → ℤ → Copied → Holding
-held m port c = heldBy (c .answer) m port (c .held)
+held m port c =
+    let new = c .held in
+    record { answer = c .answer; number = new .closed .number; serial = new .closed .serial; after = cond (new .any) (holdPut m port new) m }

@@ -12,7 +12,7 @@ use Rattle.address.specs.declared.WordAddr.{WordAddr}
 use Rattle.address.specs.declared.ByteAddr.{ByteAddr}
 use Rattle.meter.specs.declared.Meter.{Meter}
 use Rattle.meter.specs.Blocks.{waitOf, blockOf as meterBlock}
-use Rattle.starting.specs.Starting.{startOf as meterStart}
+use Rattle.meter.specs.Starting.{startOf as meterStart}
 use Rattle.desk.specs.declared.Desk.{Desk}
 use Rattle.port.specs.declared.Held.{Held}
 use Rattle.port.specs.declared.Reading.the-variants.{Refused as NotRead}

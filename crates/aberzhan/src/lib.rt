@@ -1,8 +1,8 @@
 // The module: two ports that stage cards and hold readings, before the meter.
 ghost use mathlib.Core.Path.{_≡_};
-ghost use Rattle.aberzhan.specs.Module.{withMeter, refusal, openOf, writeOf, commitOf, dropOf, notHeld, holdOf, readOf, blockOf, freshModule, startOf};
+ghost use Rattle.aberzhan.specs.Module.{refusal, openOf, writeOf, commitOf, dropOf, holdOf, readOf, blockOf, freshModule, startOf};
 ghost use Rattle.aberzhan.specs.Cards.{serialIf, cardsOf};
-ghost use Rattle.aberzhan.specs.Inside.{isPort, deskAt, holdAt, deskPut, holdPut, deskDid, committed, held};
+ghost use Rattle.aberzhan.specs.Inside.{isPort, deskAt, holdAt, deskDid, waitsIf, committed, held};
 use address::ByteAddr;
 use address::WordAddr;
 use card::Card;
@@ -64,6 +64,16 @@ fn is_port(port: i64) -> bool
     (0 <= port) & (port <= 1)
 }
 
+// The card waits; where its desk refused, the meter is as it came.
+fn waits_if(answer: Answer, c: Card, m: Meter) -> Meter
+    ensures { λ r. ⌜ r ≡ waitsIf answer c m ⌝ }
+{
+    match answer {
+        Answer::Done => m.wait(c),
+        Answer::Refused(_) => m,
+    }
+}
+
 impl Module {
     // No port is open, nothing is held.
     fn fresh(m: Meter) -> Module
@@ -84,7 +94,7 @@ impl Module {
     pub fn start(n: i64, b: i64, track: [WordAddr; 6]) -> Stepped
         ensures { λ r. ⌜ r ≡ startOf n b track ⌝ }
     {
-        let r = starting::start(n, b, track);
+        let r = meter::start(n, b, track);
         let answer = r.answer;
         let after = Module::fresh(r.after);
         Stepped { answer, after }
@@ -96,39 +106,10 @@ impl Module {
         if port < 1 { self.desk0 } else { self.desk1 }
     }
 
-    fn with_desk(mut self, port: i64, d: Desk) -> Module
-        ensures { λ r. ⌜ r ≡ deskPut self port d ⌝ }
-    {
-        if port < 1 {
-            self.desk0 = d;
-        } else {
-            self.desk1 = d;
-        }
-        self
-    }
-
     fn held(self, port: i64) -> Held
         ensures { λ r. ⌜ r ≡ holdAt self port ⌝ }
     {
         if port < 1 { self.hold0 } else { self.hold1 }
-    }
-
-    fn with_held(mut self, port: i64, h: Held) -> Module
-        ensures { λ r. ⌜ r ≡ holdPut self port h ⌝ }
-    {
-        if port < 1 {
-            self.hold0 = h;
-        } else {
-            self.hold1 = h;
-        }
-        self
-    }
-
-    fn with_meter(mut self, m: Meter) -> Module
-        ensures { λ r. ⌜ r ≡ withMeter m self ⌝ }
-    {
-        self.meter = m;
-        self
     }
 
     // Document 01's number, and the module as it came.
@@ -142,14 +123,19 @@ impl Module {
     }
 
     // What was done at a port's desk; a desk that refused is as it came.
-    fn at_desk(self, port: i64, did: Desked) -> Stepped
+    fn at_desk(mut self, port: i64, did: Desked) -> Stepped
         ensures { λ r. ⌜ r ≡ deskDid self port did ⌝ }
     {
         let answer = did.answer;
-        let edited = self.with_desk(port, did.after);
+        let d = did.after;
+        if port < 1 {
+            self.desk0 = d;
+        } else {
+            self.desk1 = d;
+        }
         Stepped {
             answer,
-            after: edited,
+            after: self,
         }
     }
 
@@ -178,23 +164,15 @@ impl Module {
     }
 
     // The card waits, and the desk is shut; or neither, where the desk refused.
-    fn commit_of(self, port: i64, done: Finished) -> Stepped
+    fn commit_of(mut self, port: i64, done: Finished) -> Stepped
         ensures { λ r. ⌜ r ≡ committed self port done ⌝ }
     {
         let answer = done.answer;
-        match answer {
-            Answer::Done => {
-                let old = self.meter;
-                let waiting = old.wait(done.card);
-                let m = self.with_desk(port, done.after);
-                let committed = m.with_meter(waiting);
-                Stepped {
-                    answer,
-                    after: committed,
-                }
-            }
-            Answer::Refused(n) => self.refused(n),
-        }
+        let waiting = waits_if(answer, done.card, self.meter);
+        self.meter = waiting;
+        let after = done.after;
+        let left = Desked { answer, after };
+        self.at_desk(port, left)
     }
 
     // Commit: 8, 10, 13.
@@ -221,36 +199,25 @@ impl Module {
         self.refused(8)
     }
 
-    fn not_held(self, number: u8) -> Holding
-        ensures { λ r. ⌜ r ≡ notHeld number self ⌝ }
-    {
-        let none = Serial::none();
-        Holding {
-            answer: Answer::Refused(number),
-            number: 0,
-            serial: none,
-            after: self,
-        }
-    }
-
     // The port has a new hold; or its old one, where nothing was copied.
-    fn hold_of(self, port: i64, c: Copied) -> Holding
+    fn hold_of(mut self, port: i64, c: Copied) -> Holding
         ensures { λ r. ⌜ r ≡ held self port c ⌝ }
     {
         let answer = c.answer;
-        match answer {
-            Answer::Done => {
-                let h = c.held;
-                let serial = h.closed.serial;
-                let holding = self.with_held(port, h);
-                Holding {
-                    answer,
-                    number: h.closed.number,
-                    serial,
-                    after: holding,
-                }
+        let serial = c.held.closed.serial;
+        let h = c.held;
+        if h.any {
+            if port < 1 {
+                self.hold0 = h;
+            } else {
+                self.hold1 = h;
             }
-            Answer::Refused(n) => self.not_held(n),
+        }
+        Holding {
+            answer,
+            number: c.held.closed.number,
+            serial,
+            after: self,
         }
     }
 
@@ -259,43 +226,45 @@ impl Module {
         ensures { λ r. ⌜ r ≡ holdOf self port ⌝ }
     {
         if is_port(port) {
-            let w = self.meter.work;
-            let track = w.settings.track;
-            let copied = Held::copy(w.any, w.last, track);
+            let track = self.meter.work.settings.track;
+            let copied = Held::copy(self.meter.work.any, self.meter.work.last, track);
             return self.hold_of(port, copied);
         }
-        self.not_held(8)
+        let none = Serial::none();
+        Holding {
+            answer: Answer::Refused(8),
+            number: 0,
+            serial: none,
+            after: self,
+        }
     }
 
     // Read byte address: 8, 15, 16, 17.
     pub fn read(self, port: i64, address: ByteAddr) -> Looked
         ensures { λ r. ⌜ r ≡ readOf self port address ⌝ }
     {
+        let mut answer = Reading::Refused(8);
         if is_port(port) {
             let h = self.held(port);
-            let answer = h.look(address);
-            return Looked {
-                answer,
-                after: self,
-            };
+            answer = h.look(address);
         }
         Looked {
-            answer: Reading::Refused(8),
+            answer,
             after: self,
         }
     }
 
     // A block of samples, voltage and current: 5, 6, 18.
-    pub fn block(self, v: &[i32], i: &[i32]) -> Stepped
+    pub fn block(mut self, v: &[i32], i: &[i32]) -> Stepped
         ensures { λ r. ⌜ r ≡ blockOf self (now (v .entry)) (now (i .entry)) ⌝ }
     {
-        let m = self.meter;
-        let r = m.block(v, i);
+        let r = self.meter.block(v, i);
         let said = r.answer;
-        let after = self.with_meter(r.after);
+        let after = r.after;
+        self.meter = after;
         Stepped {
             answer: said,
-            after,
+            after: self,
         }
     }
 
@@ -303,9 +272,8 @@ impl Module {
     pub fn cards(self) -> Cards
         ensures { λ r. ⌜ r ≡ cardsOf self ⌝ }
     {
-        let m = self.meter;
-        let force = serial_if(m.forced, m.force);
-        let waiting = serial_if(m.waits, m.waiting);
+        let force = serial_if(self.meter.forced, self.meter.force);
+        let waiting = serial_if(self.meter.waits, self.meter.waiting);
         Cards { force, waiting }
     }
 }

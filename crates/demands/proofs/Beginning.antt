@@ -6,7 +6,7 @@ use lib.IntN.{ℤ, natAbs}
 use Rattle.steps.specs.declared.Answer.the-variants.{Done, Refused}
 use Rattle.address.specs.declared.WordAddr.{WordAddr}
 use Rattle.address.specs.Slots.{everySlot}
-use Rattle.starting.specs.Starting.{numbersOk, freshOf, notStarted, startOf as meterStart}
+use Rattle.meter.specs.Starting.{numbersOk, freshOf, notStarted, startOf as meterStart}
 use Rattle.meter.specs.declared.Stepped.{Stepped as Metered}
 use Rattle.aberzhan.specs.declared.Stepped.{Stepped}
 use Rattle.aberzhan.specs.Module.{freshModule, startOf}

@@ -18,7 +18,7 @@ use Rattle.tracking.specs.Tracking.{tracked, further, lowest, highest, followed
 use Rattle.interval.specs.Close.{sourceAfter, sevenOf, registersAfter, numberAfter, closedOf}
 use Rattle.meter.specs.Core.{samplesOf, lastOf, closedWork}
 use Rattle.meter.specs.Blocks.{waitOf, nextCard, soundOf, blockOf as meterBlock}
-use Rattle.starting.specs.Starting.{numbersOk, freshOf, startOf as meterStart}
+use Rattle.meter.specs.Starting.{numbersOk, freshOf, startOf as meterStart}
 use Rattle.desk.specs.Desks.{emptyCard, withField, opening, writing, allWritten, cardOn, finished, discarded}
 use Rattle.port.specs.Holds.{copyOf, copied}
 use Rattle.port.specs.Reading.{registers, slotOff, look}

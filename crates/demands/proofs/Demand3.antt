@@ -19,9 +19,9 @@ use Rattle.steps.proofs.Promise.{promise}
 use Rattle.address.specs.declared.WordAddr.{WordAddr}
 use Rattle.sample.specs.Sums.{Sample}
 use Rattle.meter.specs.Core.{core, samplesOf}
-use Rattle.starting.specs.Starting.{noCard, freshWork, freshOf}
+use Rattle.meter.specs.Starting.{noCard, freshWork, freshOf}
 use Rattle.meter.proofs.Sound.{Sound, sound-yes}
-use Rattle.starting.proofs.Starts.{fresh-sound}
+use Rattle.meter.proofs.Starts.{fresh-sound}
 use Rattle.aberzhan.specs.declared.Module.{Module}
 use Rattle.aberzhan.specs.declared.Stepped.{Stepped}
 use Rattle.aberzhan.specs.Ports.{ports, aberzhan}

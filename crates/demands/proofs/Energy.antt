@@ -15,7 +15,7 @@ use Rattle.energy.specs.Energies.{noEnergy}
 use Rattle.interval.specs.Close.{sourceAfter, registersAfter, closedOf, noneClosed}
 use Rattle.meter.specs.declared.Work.{Work}
 use Rattle.meter.specs.Core.{core, lastOf, closedWork}
-use Rattle.starting.specs.Starting.{freshOf}
+use Rattle.meter.specs.Starting.{freshOf}
 use Rattle.aberzhan.specs.declared.Module.{Module}
 use Rattle.aberzhan.specs.Ports.{ports, aberzhan}
 use Rattle.aberzhan.specs.Module.{freshModule}

@@ -23,7 +23,7 @@ use Rattle.interval.specs.Close.{closedOf, noneClosed}
 use Rattle.interval.proofs.Wholes.{sums-are, closes-whole}
 use Rattle.meter.specs.declared.Work.{Work}
 use Rattle.meter.specs.Core.{core, withSums, lastOf, closedWork}
-use Rattle.starting.specs.Starting.{freshOf}
+use Rattle.meter.specs.Starting.{freshOf}
 use Rattle.aberzhan.specs.declared.Module.{Module}
 use Rattle.aberzhan.specs.Ports.{ports, aberzhan}
 use Rattle.aberzhan.specs.Module.{freshModule}

@@ -7,7 +7,7 @@ use Rattle.steps.specs.declared.Answer.the-variants.{Done, Refused}
 use Rattle.address.specs.Slots.{off, everySlot}
 use Rattle.energy.specs.Energies.{noEnergy}
 use Rattle.interval.specs.declared.Settings.{Settings}
-use Rattle.starting.specs.Starting.{numbersOk}
+use Rattle.meter.specs.Starting.{numbersOk}
 use Rattle.aberzhan.specs.declared.Module.{Module}
 use Rattle.demands.specs.Program.{Program, first, settings}
 

@@ -11,7 +11,7 @@ use Rattle.steps.specs.Calls.{Reply, refuses, done, Log, Ran, shorterCalls, Cal
 use Rattle.sample.specs.Sums.{Sample}
 use Rattle.meter.specs.Core.{core, samplesOf}
 use Rattle.meter.specs.Blocks.{soundOf}
-use Rattle.starting.specs.Starting.{noCard}
+use Rattle.meter.specs.Starting.{noCard}
 use Rattle.aberzhan.specs.declared.Module.{Module}
 use Rattle.aberzhan.specs.Ports.{ports, aberzhan}
 use Rattle.aberzhan.specs.Calls.{stateOf, callBlock}

@@ -14,7 +14,7 @@ use Rattle.sample.specs.Sums.{Sample}
 use Rattle.interval.specs.Whole.{lastRaw, intervalOf}
 use Rattle.interval.specs.Close.{noneClosed}
 use Rattle.meter.specs.Core.{core}
-use Rattle.starting.specs.Starting.{noCard}
+use Rattle.meter.specs.Starting.{noCard}
 use Rattle.aberzhan.specs.Ports.{ports, aberzhan}
 use Rattle.aberzhan.specs.Calls.{stateOf}
 use Rattle.demands.specs.Program.{Program, first, settings, steps, ran, closes}

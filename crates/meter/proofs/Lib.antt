@@ -4,4 +4,5 @@ pub mod Stretches
 pub mod Keeping
 pub mod Ways
 pub mod Agreement
+pub mod Starts
 pub mod Decided

@@ -1,4 +1,4 @@
-// Samples into intervals: the card that comes into force, and a block.
+// Samples into intervals: the start, the card that comes into force, and a block.
 ghost use mathlib.Core.Path.{_≡_};
 ghost use mathlib.Core.Bool.{true};
 ghost use Prim.Native.Nat.{_+_, _-_, _≤_, _<_, min};
@@ -7,11 +7,14 @@ ghost use Rattle.sample.specs.Sums.{samplesIn};
 ghost use Rattle.meter.specs.Core.{withSums, closedWork};
 ghost use Rattle.meter.specs.Inside.{begunOf, endOf, stretchOf, fedOf};
 ghost use Rattle.meter.specs.Blocks.{soundOf, carded, waitOf, blockOf};
+ghost use Rattle.meter.specs.Starting.{freshOf, startOf, notStarted};
+use address::WordAddr;
 use card::Card;
 use interval::Closed;
 use interval::Settings;
 use sample::Sums;
 use sample::phase_in_range;
+use serial::Serial;
 use steps::Answer;
 
 // What outlives an interval, with the sums of the one that runs. any: whether any interval has; last: the one that closed last.
@@ -39,74 +42,54 @@ pub struct Stepped {
 }
 
 impl Work {
-    fn with_sums(self, s: Sums) -> Work
+    fn with_sums(mut self, s: Sums) -> Work
         ensures { λ r. ⌜ r ≡ withSums self s ⌝ }
     {
-        let settings = self.settings;
-        let last = self.last;
-        Work {
-            settings,
-            sums: s,
-            any: self.any,
-            last,
-        }
+        self.sums = s;
+        self
     }
 
     // The interval closes, worked with one card.
-    fn closed(self, c: Card) -> Work
+    fn closed(mut self, c: Card) -> Work
         ensures { λ r. ⌜ r ≡ closedWork c self ⌝ }
     {
-        let settings = self.settings;
         let sums = self.sums;
-        let old = self.last;
-        let last = old.next(!self.any, settings, c, sums, settings.n);
+        let last = self.last
+            .next(!self.any, self.settings, c, sums, self.settings.n);
         let none = sums.emptied();
-        Work {
-            settings,
-            sums: none,
-            any: true,
-            last,
-        }
+        self.sums = none;
+        self.any = true;
+        self.last = last;
+        self
     }
 }
 
 impl Meter {
     // At an interval's first sample a card that waits comes into force.
-    fn begun(self) -> Meter
+    fn begun(mut self) -> Meter
         ensures { λ r. ⌜ r ≡ begunOf self ⌝ }
     {
         if self.taken == 0 {
             if self.waits {
                 let c = self.waiting;
-                let w = self.work;
-                return Meter {
-                    waits: false,
-                    waiting: c,
-                    forced: true,
-                    force: c,
-                    taken: self.taken,
-                    work: w,
-                };
+                self.waits = false;
+                self.forced = true;
+                self.force = c;
             }
-            return self;
         }
         self
     }
 
     // The running interval has n samples, with the sums of w; the last of N closes it.
-    fn ended(mut self, n: u32, w: Work) -> Meter
+    fn ended(mut self, n: u32, mut w: Work) -> Meter
         ensures { λ r. ⌜ r ≡ endOf n w self ⌝ }
     {
-        let t = w.settings;
-        let full = n == t.n;
-        if full {
-            let c = self.force;
-            let u = w.closed(c);
-            self.taken = 0;
-            self.work = u;
-            return self;
-        }
+        let full = n == w.settings.n;
         self.taken = n;
+        if full {
+            w = w.closed(self.force);
+            self.taken = 0;
+        }
         self.work = w;
         self
     }
@@ -118,12 +101,9 @@ impl Meter {
         ensures { λ r. ⌜ r ≡ stretchOf self (samplesIn (now (v .entry)) (now (i .entry))) ⌝ }
     {
         let m = self.begun();
-        let c = m.force;
-        let w = m.work;
-        let old = w.sums;
-        let s = summing::with_samples(old, self.taken, c, v, i);
-        let u = w.with_sums(s);
-        m.ended(self.taken + v.len() as u32, u)
+        let s = summing::with_samples(m.work.sums, self.taken, m.force, v, i);
+        let w = m.work.with_sums(s);
+        m.ended(self.taken + v.len() as u32, w)
     }
 
     // How far the running interval reaches, from `at` and at most to `end`.
@@ -131,39 +111,32 @@ impl Meter {
         requires { ⌜ (soundOf self ≡ true) × (at < end) ⌝ }
         ensures { λ r. ⌜ r ≡ min end (at + (self .work .settings .n - self .taken)) ⌝ }
     {
-        let w = self.work;
-        let t = w.settings;
-        let room = (t.n - self.taken) as usize;
+        let room = (self.work.settings.n - self.taken) as usize;
         if end - at < room { end } else { at + room }
     }
 
     // The samples of two slices, interval by interval.
-    fn feed(self, v: &[i32], i: &[i32]) -> Meter
+    fn feed(mut self, v: &[i32], i: &[i32]) -> Meter
         requires { ⌜ (soundOf self ≡ true) × (length (now v) ≡ length (now i)) ⌝ }
         ensures { λ r. ⌜ r ≡ fedOf self (samplesIn (now (v .entry)) (now (i .entry))) ⌝ }
     {
-        let mut m = self;
         let mut at: usize = 0;
         while at < v.len() {
-            let to = m.reach(at, v.len());
-            m = m.stretch(&v[at..to], &i[at..to]);
+            let to = self.reach(at, v.len());
+            self = self.stretch(&v[at..to], &i[at..to]);
             at = to;
         }
-        m
+        self
     }
 
     // Whether no sum of the running interval can overflow.
     fn sound(self) -> bool
         ensures { λ r. ⌜ r ≡ soundOf self ⌝ }
     {
-        let w = self.work;
-        let t = w.settings;
-        let s = w.sums;
-        let k = self.taken;
-        let fits = s.of_at_most(k);
+        let fits = self.work.sums.of_at_most(self.taken);
         let a = phase_in_range(self.waiting);
         let b = phase_in_range(self.force);
-        (t.n <= 4096) & (k < t.n) & fits & a & b
+        (self.work.settings.n <= 4096) & (self.taken < self.work.settings.n) & fits & a & b
     }
 
     // Whether a card is in force or waits.
@@ -186,7 +159,7 @@ impl Meter {
     }
 
     // A block of samples: 5, 6, 18.
-    pub fn block(self, v: &[i32], i: &[i32]) -> Stepped
+    pub fn block(mut self, v: &[i32], i: &[i32]) -> Stepped
         ensures { λ r. ⌜ r ≡ blockOf self (now (v .entry)) (now (i .entry)) ⌝ }
     {
         let n = v.len();
@@ -195,10 +168,10 @@ impl Meter {
                 if sample::all_in_range(v) {
                     if sample::all_in_range(i) {
                         if self.has_card() {
-                            let m = self.feed(v, i);
+                            self = self.feed(v, i);
                             return Stepped {
                                 answer: Answer::Done,
-                                after: m,
+                                after: self,
                             };
                         }
                         return Stepped {
@@ -218,4 +191,55 @@ impl Meter {
             after: self,
         }
     }
+}
+
+// No card, no interval, counts and remainders 0.
+fn fresh(n: u32, b: u64, track: [WordAddr; 6]) -> Meter
+    ensures { λ r. ⌜ r ≡ freshOf n b track ⌝ }
+{
+    let none = Serial::none();
+    let c = Card {
+        serial: none,
+        fields: [0; 8],
+    };
+    Meter {
+        waits: false,
+        waiting: c,
+        forced: false,
+        force: c,
+        taken: 0,
+        work: Work {
+            settings: Settings { n, b, track },
+            sums: Sums::none(),
+            any: false,
+            last: Closed::none(),
+        },
+    }
+}
+
+fn not_started() -> Stepped
+    ensures { λ r. ⌜ r ≡ notStarted ⌝ }
+{
+    let m = fresh(1, 1, [WordAddr(0); 6]);
+    Stepped {
+        answer: Answer::Refused(7),
+        after: m,
+    }
+}
+
+// A start with N, B and the six words to track: 7.
+pub fn start(n: i64, b: i64, track: [WordAddr; 6]) -> Stepped
+    ensures { λ r. ⌜ r ≡ startOf n b track ⌝ }
+{
+    if (1 <= n) & (n <= 4096) & (1 <= b) & (b <= 281474976710655) {
+        if address::all_slots(track) {
+            let m = fresh(n as u32, b as u64, track);
+            return Stepped {
+                answer: Answer::Done,
+                after: m,
+            };
+        }
+        return not_started();
+    }
+    not_started()
 }

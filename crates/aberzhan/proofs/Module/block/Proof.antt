@@ -7,12 +7,9 @@ use Rattle.aberzhan.proofs.Module.block.Tie as tie
 block-requires : tie.Need-block-requires
 block-requires c κs = search needs
 
-with-meter-requires : tie.Need-with-meter-requires
-with-meter-requires c κs = search needs
-
 returns : tie.Need-returns
 unfolding blockOf
-returns c = simp (c .with-meter .ensures, c .before .block .ensures)
+returns c = simp (c .before .block .ensures)
 
 pub block-spec : {M : Type 1} → statement M
-block-spec = tie.close (tie.spec block-requires with-meter-requires returns)
+block-spec = tie.close (tie.spec block-requires returns)

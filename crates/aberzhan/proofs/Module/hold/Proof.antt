@@ -3,6 +3,10 @@ use mathlib.Core.Path.{_≡_, sym, ap, _∙_}
 use mathlib.Core.Bool.{true, false}
 use lib.IntN.{ℤ}
 use mir.Facts.{toZ-ofZ}
+use Rattle.serial.specs.declared.Serial.{Serial}
+use Rattle.steps.specs.declared.Answer.the-variants.{Refused}
+use Rattle.aberzhan.specs.declared.Module.{Module}
+use Rattle.aberzhan.specs.declared.Holding.{Holding}
 use Rattle.aberzhan.specs.Inside.{isPort, held}
 use Rattle.aberzhan.proofs.Steps.{holds, hold-8}
 use borrow.Author.Needs.{needs}
@@ -18,8 +22,8 @@ copy-requires c κs = search needs
 hold-of-requires : tie.Need-hold-of-requires
 hold-of-requires c κs = search needs
 
-not-held-requires : tie.Need-not-held-requires
-not-held-requires c κs = search needs
+none-requires : tie.Need-none-requires
+none-requires c κs = search needs
 
 -- the number names a port, or none
 port : (c : tie.Then1) → isPort (c .before .before .args .port) ≡ true
@@ -28,9 +32,12 @@ port c = rw (toZ-ofZ (c .before .before .fits .port)) at (sym (c .before .is-por
 no-port : (c : tie.Else1) → isPort (c .before .before .args .port) ≡ false
 no-port c = rw (toZ-ofZ (c .before .before .fits .port)) at (sym (c .before .is-port .ensures) ∙ c .if1 .left)
 
+abbrev not-held : Serial → Module → Holding
+not-held s m = record { answer = Refused 8; number = 0; serial = s; after = m }
+
 returns : tie.Need-returns
 returns c =
-    let one = c .before .before .before .before in
+    let one = c .before .before .before in
     let start = one .before .before in
     let m = start .args .self in
     let p = start .args .port in
@@ -42,7 +49,8 @@ returns c =
 returns-2 : tie.Need-returns-2
 returns-2 c =
     let start = c .before .before .before in
-    c .not-held .ensures ∙ hold-8 (start .args .self) (start .args .port) (no-port (c .before))
+    ap (λ (s : Serial). not-held s (start .args .self)) (c .none .ensures)
+    ∙ hold-8 (start .args .self) (start .args .port) (no-port (c .before))
 
 pub hold-spec : {M : Type 1} → statement M
-hold-spec = tie.close (tie.spec is-port-requires copy-requires hold-of-requires returns not-held-requires returns-2)
+hold-spec = tie.close (tie.spec is-port-requires copy-requires hold-of-requires returns none-requires returns-2)

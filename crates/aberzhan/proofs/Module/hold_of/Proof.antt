@@ -1,36 +1,24 @@
 -- `hold_of` meets its contract.
 use mir.Facts.{toZ-ofZ}
-use Rattle.aberzhan.specs.Inside.{held}
-use borrow.Author.Needs.{needs}
+use Rattle.aberzhan.specs.Inside.{sideOf, holdPut, held}
 use Rattle.aberzhan.proofs.Module.hold_of.Statement.{statement}
 use Rattle.aberzhan.proofs.Module.hold_of.Tie as tie
 
-enum-told : tie.Need-enum-told
-enum-told c = search needs
-
-with-held-requires : tie.Need-with-held-requires
-with-held-requires c κs = search needs
-
-enum-known-answer : tie.Need-enum-known-answer
-enum-known-answer c = search needs
-
-not-held-requires : tie.Need-not-held-requires
-not-held-requires c κs = search needs
-
 returns : tie.Need-returns
-unfolding held
+unfolding held holdPut sideOf
 returns c =
-    let told = c .before .before .before in
-    let start = told .before .before in
-    simp (told .enum-told .given .1, c .with-held .ensures, toZ-ofZ (start .fits .port))
+    let any = c .before in
+    simp (any .if1 .taken, rw (toZ-ofZ (any .before .before .before .fits .port)) at (c .if2 .taken))
 
 returns-2 : tie.Need-returns-2
-unfolding held
+unfolding held holdPut sideOf
 returns-2 c =
-    let told = c .before .before in
-    simp (told .answer .given .1, c .not-held .ensures)
+    let any = c .before in
+    simp (any .if1 .taken, rw (toZ-ofZ (any .before .before .before .fits .port)) at (c .if2 .left))
+
+returns-3 : tie.Need-returns-3
+unfolding held
+returns-3 c = simp (c .if1 .left)
 
 pub hold-of-spec : {M : Type 1} → statement M
-hold-of-spec =
-    tie.close
-    (tie.spec enum-told with-held-requires enum-known-answer not-held-requires returns returns-2)
+hold-of-spec = tie.close (tie.spec returns returns-2 returns-3)

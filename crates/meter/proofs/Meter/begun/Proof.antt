@@ -7,7 +7,7 @@ use Rattle.meter.proofs.Meter.begun.Tie as tie
 returns : tie.Need-returns
 unfolding begunOf
 returns c =
-    let t = c .before .before in
+    let t = c .before in
     rw (eq-eqb _ _ (t .before .if1 .taken), t .if2 .taken)
 
 returns-2 : tie.Need-returns-2

@@ -15,22 +15,22 @@ use Rattle.meter.proofs.Meter.feed.Statement.{statement}
 use Rattle.meter.proofs.Meter.feed.Tie as tie
 
 abbrev Inv-loop : tie.InvT-loop
-Inv-loop v i m₀ at₀ m at = (at ≤ length v) × Sound m × (fedOf m (drop at (samplesIn v i)) ≡ fedOf m₀ (samplesIn v i))
+Inv-loop m₀ v i at₀ m at = (at ≤ length v) × Sound m × (fedOf m (drop at (samplesIn v i)) ≡ fedOf m₀ (samplesIn v i))
 
 abbrev μ-loop : tie.MeasureT-loop
-μ-loop v i m₀ at₀ m at = length v - at
+μ-loop m₀ v i at₀ m at = length v - at
 
 loop-holds : tie.Need-loop-holds Inv-loop μ-loop
 loop-holds c = (omega arith, sound-of (c .args .self) (c .pre .0), refl)
 
 reach-requires : tie.Need-reach-requires Inv-loop μ-loop
-reach-requires c κs = (sound-yes (c .before .loop .m) (c .before .loop .inv .1), c .loop-test .taken)
+reach-requires c κs = (sound-yes (c .before .loop .self) (c .before .loop .inv .1), c .loop-test .taken)
 
 -- the stretch is not empty, is within the slice and within the interval
 record Span (c : tie.After-reach Inv-loop μ-loop) : Type 0 where
   some : c .before .before .loop .at < c .reach .result
   within : c .reach .result ≤ length (now (c .before .before .before .args .v))
-  fits : c .before .before .loop .m .taken + (c .reach .result - c .before .before .loop .at) ≤ c .before .before .loop .m .work .settings .n
+  fits : c .before .before .loop .self .taken + (c .reach .result - c .before .before .loop .at) ≤ c .before .before .loop .self .work .settings .n
 
 span : (c : tie.After-reach Inv-loop μ-loop) → Span c
 span c =
@@ -70,7 +70,7 @@ stretch-requires c κs =
     let top = reach .before .before in
     let s = span reach in
     let e = top .before .pre .1 in
-    simp (length-take, length-drop) ((sound-yes (top .loop .m) (top .loop .inv .1), omega arith), omega arith)
+    simp (length-take, length-drop) ((sound-yes (top .loop .self) (top .loop .inv .1), omega arith), omega arith)
 
 loop-less : tie.Need-loop-less Inv-loop μ-loop
 loop-less c = omega (arith, span (c .before .before .before))
@@ -82,7 +82,7 @@ loop-again c =
     let a = top .before .args in
     let v = now (a .v) in
     let i = now (a .i) in
-    let m = top .loop .m in
+    let m = top .loop .self in
     let at = top .loop .at in
     let to = reach .reach .result in
     let s = span reach in
@@ -102,7 +102,7 @@ returns c =
     let a = top .before .args in
     let v = now (a .v) in
     let i = now (a .i) in
-    sym (fed-end (top .loop .m) (samplesIn v i) (top .loop .at) (omega (arith, samples-long v i (top .before .pre .1)))) ∙ top .loop .inv .2
+    sym (fed-end (top .loop .self) (samplesIn v i) (top .loop .at) (omega (arith, samples-long v i (top .before .pre .1)))) ∙ top .loop .inv .2
 
 pub feed-spec : {M : Type 1} → statement M
 feed-spec =

@@ -6,7 +6,7 @@ use Rattle.meter.proofs.Meter.reach.Statement.{statement}
 use Rattle.meter.proofs.Meter.reach.Tie as tie
 
 sub-room : tie.Need-sub-room
-sub-room c = omega (arith, sound-of (c .before .before .before .before .args .self) (c .before .before .before .before .pre .0) .taken-most)
+sub-room c = omega (arith, sound-of (c .before .args .self) (c .before .pre .0) .taken-most)
 
 cast-room : tie.Need-cast-room
 cast-room c = search needs

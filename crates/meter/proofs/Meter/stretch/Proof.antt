@@ -22,11 +22,11 @@ with-samples-requires c κs = search needs
 
 -- the samples may join: the interval has room for them
 joined : (c : tie.After-with-samples) →
-    let begun = c .before .before .before .before in
+    let begun = c .before in
     let a = begun .before .args in
     c .with-samples .result ≡ addedAll (begun .begun .result .force) (begun .begun .result .work .sums) (samplesIn (now (a .v)) (now (a .i)))
 joined c =
-    let begun = c .before .before .before .before in
+    let begun = c .before in
     let start = begun .before in
     let a = start .args in
     let h = sound-of (a .self) (start .pre .0 .0) in
@@ -43,12 +43,12 @@ with-sums-requires c κs = search needs
 
 cast-ended : tie.Need-cast-ended
 cast-ended c =
-    let start = c .before .before .before .before .before .before in
+    let start = c .before .before .before in
     record { fits = omega (arith, sound-of (start .args .self) (start .pre .0 .0) .n-most) }
 
 add-ended : tie.Need-add-ended
 add-ended c =
-    let start = c .before .before .before .before .before .before .before in
+    let start = c .before .before .before .before in
     record { fits = omega (arith, sound-of (start .args .self) (start .pre .0 .0) .n-most) }
 
 ended-requires : tie.Need-ended-requires
@@ -58,7 +58,7 @@ returns : tie.Need-returns
 unfolding stretchOf
 returns c =
     let s = c .before .before in
-    let begun = s .before .before .before .before .before in
+    let begun = s .before .before in
     let start = begun .before in
     let a = start .args in
     rw (c .ended .ensures, s .with-sums .ensures, joined (s .before), begun .begun .ensures, samples-long (now (a .v)) (now (a .i)) (start .pre .0 .1))

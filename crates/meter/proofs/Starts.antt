@@ -9,9 +9,9 @@ use lib.Signed.{leZ, nonNeg}
 use borrow.Author.Tests.{leb-true}
 use Rattle.address.specs.declared.WordAddr.{WordAddr}
 use Rattle.address.specs.Slots.{everySlot}
 use Rattle.meter.proofs.Sound.{Sound}
 use Rattle.sample.specs.Inside.{Phased}
-use Rattle.starting.specs.Starting.{numbersOk, noCard, freshOf, startOf, notStarted}
+use Rattle.meter.specs.Starting.{numbersOk, noCard, freshOf, startOf, notStarted}
 use Rattle.steps.specs.declared.Answer.the-variants.{Done}
 
 -- a fresh module is sound

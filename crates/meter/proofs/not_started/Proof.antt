@@ -1,7 +1,7 @@
 -- `not_started` meets its contract.
 use borrow.Author.Needs.{needs}
-use Rattle.starting.proofs.not_started.Statement.{statement}
-use Rattle.starting.proofs.not_started.Tie as tie
+use Rattle.meter.proofs.not_started.Statement.{statement}
+use Rattle.meter.proofs.not_started.Tie as tie
 
 fresh-requires : tie.Need-fresh-requires
 fresh-requires c κs = search needs

@@ -3,11 +3,11 @@ use native.Mathlib.Omega.{arith}
 use mathlib.Core.Path.{_≡_, sym, _∙_}
 use mathlib.Core.Bool.{true, false}
 use mir.Facts.{toZ-ofZ}
-use Rattle.starting.specs.Starting.{numbersOk}
-use Rattle.starting.proofs.Starts.{start-done, start-slots, start-not, numbers-in}
+use Rattle.meter.specs.Starting.{numbersOk}
+use Rattle.meter.proofs.Starts.{start-done, start-slots, start-not, numbers-in}
 use borrow.Author.Needs.{needs}
-use Rattle.starting.proofs.start.Statement.{statement}
-use Rattle.starting.proofs.start.Tie as tie
+use Rattle.meter.proofs.start.Statement.{statement}
+use Rattle.meter.proofs.start.Tie as tie
 
 all-slots-requires : tie.Need-all-slots-requires
 all-slots-requires c κs = search needs

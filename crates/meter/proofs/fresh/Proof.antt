@@ -1,8 +1,8 @@
 -- `fresh` meets its contract. The three calls are `Serial::none`, `Sums::none` and `Closed::none`.
-use Rattle.starting.specs.Starting.{freshOf}
+use Rattle.meter.specs.Starting.{freshOf}
 use borrow.Author.Needs.{needs}
-use Rattle.starting.proofs.fresh.Statement.{statement}
-use Rattle.starting.proofs.fresh.Tie as tie
+use Rattle.meter.proofs.fresh.Statement.{statement}
+use Rattle.meter.proofs.fresh.Tie as tie
 
 none-requires : tie.Need-none-requires
 none-requires c κs = search needs

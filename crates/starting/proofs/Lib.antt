@@ -1,3 +1,0 @@
--- Laws of a start.
-pub mod Starts
-pub mod Decided
