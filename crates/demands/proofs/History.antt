@@ -49,6 +49,6 @@ every-close p =
       roots =
           let P : Saying = λ c before xs old z. RmsOf c before xs z in
           subst (Each P none noneClosed is) e (each t P (λ fst. interval-rms fst t) is true none noneClosed);
-      no-load = subst (Each SquelchedBy none noneClosed is) e (each t SquelchedBy (λ fst. squelched-by fst t) is true none noneClosed);
+      squelching = subst (Each SquelchedBy none noneClosed is) e (each t SquelchedBy (λ fst. squelched-by fst t) is true none noneClosed);
       followed = closes-followed t (closes p) (subst (ClosedInTurn t true noneClosed) e (in-turn t is true none noneClosed));
     }

@@ -1,4 +1,4 @@
--- Each closed interval is worked from its card, its samples and the raw current before its first, as document 01 has it for a whole interval.
+-- Each closed interval is worked from its card, its samples and the raw current before its first, as documents 01 and 02 (A1) have it for a whole interval.
 use Prim.Native.Nat.{ℕ, _≤_}
 use mathlib.Core.Path.{_≡_, refl, sym, ap, _∙_}
 use mathlib.Core.Bool.{Bool, true, false, cond, not}

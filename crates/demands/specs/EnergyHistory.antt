@@ -1,19 +1,19 @@
 -- The energy rule over the whole history of closes.
 use mathlib.Core.Path.{_≡_}
 use mathlib.Core.List.{List, [], _∷_, foldl}
-use lib.IntN.{ℤ, pos}
-use lib.ListN.{getD}
+use lib.IntN.{ℤ}
 use Rattle.energy.specs.declared.Energy.{Energy}
 use Rattle.interval.specs.declared.Settings.{Settings}
 use Rattle.interval.specs.declared.Closed.{Closed}
 use Rattle.energy.specs.Energies.{plusAfter, minusAfter, noEnergy}
 use Rattle.interval.specs.Close.{noneClosed}
+use Rattle.interval.specs.NoLoad.{figureOf}
 use Rattle.meter.specs.declared.Work.{Work}
 use Rattle.demands.specs.Program.{Program, settings, closes}
 
 -- P of a closed interval, WATT_A: the third of the figures
 abbrev pub powerOf : Closed → ℤ
-powerOf z = getD (z .regs .a .figures) 2 (pos 0)
+powerOf z = figureOf 2 z
 
 module _ (t : Settings) where
   -- each direction's count and remainder after one more closed interval

@@ -1,5 +1,5 @@
--- Of every closed interval of every program: VRMS and IRMS are roots of its mean squares, it is squelched by its root alone and no energy comes of
--- it then, its number counts the closes, and minima and maxima are those of all that closed so far.
+-- Of every closed interval of every program: VRMS and IRMS are roots of its mean squares; its root and its card's SQUELCH alone decide whether it is
+-- squelched, and no energy comes of it then; its number counts the closes; minima and maxima are those of all that closed so far.
 use mathlib.Core.List.{List, [], _∷_}
 use mathlib.Core.Option.{Option, none, some}
 use lib.IntN.{ℤ}
@@ -31,7 +31,7 @@ Each P r old (i ∷ is) (z ∷ zs) =
 
 pub record ProgramHistory (p : Program) : Type 0 where
   pub roots : Each (λ c before xs old z. RmsOf c before xs z) none noneClosed (intervalsOf p) (closes p)
-  pub no-load : Each SquelchedBy none noneClosed (intervalsOf p) (closes p)
+  pub squelching : Each SquelchedBy none noneClosed (intervalsOf p) (closes p)
   pub followed : EachFollowed (settings p) (closes p)
 
 abbrev pub EveryClose : Type 0

@@ -1,4 +1,4 @@
--- Every interval is squelched by its root alone, and no energy comes of one that is.
+-- The root and the card's SQUELCH alone decide whether an interval is squelched, and no energy comes of one that is.
 use Prim.Native.Nat.{ℕ, _*_, _-_, _/_}
 use mathlib.Core.Path.{_≡_, ap, subst, _∙_}
 use mathlib.Core.Bool.{Bool, true}
@@ -9,8 +9,8 @@ use Rattle.root.specs.Root.{Root}
 use Rattle.card.specs.declared.Card.{Card}
 use Rattle.sample.specs.Fields.{irmsoffs}
 use Rattle.sample.specs.Sums.{Sample}
-use Rattle.rules.specs.Source.{vrmsOf, isSquelched}
-use Rattle.rules.proofs.Places.{watt-at}
+use Rattle.rules.specs.Source.{vrmsOf, isSquelched, ipeakOf}
+use Rattle.rules.proofs.Places.{peak-at, watt-at}
 use Rattle.rules.proofs.NoLoad.{below-squelch, not-below-squelch, squelched-figures, squelched-watt, watt-left}
 use Rattle.energy.specs.Energies.{joinedBy, plusAfter, minusAfter}
 use Rattle.interval.specs.declared.Settings.{Settings}
@@ -46,7 +46,7 @@ module _ (first : Bool) (t : Settings) (c : Card) (before : ℤ) (xs : List Samp
       }
 
   pub squelched-by : SquelchedBy c before xs old (intervalOf first t c before xs old)
-  unfolding intervalOf closedOf registersAfter sourceAfter sumsOf flowOf
+  unfolding intervalOf closedOf registersAfter sourceAfter sumsOf flowOf ipeakOf
   squelched-by =
       let ys = worked c before xs in
       let n = length xs in
@@ -55,4 +55,5 @@ module _ (first : Bool) (t : Settings) (c : Card) (before : ℤ) (xs : List Samp
         not-below = λ root h k.
             watt-at c (vrmsOf (voltageSquares ys) n) (flowOf ys) n
             ∙ watt-left c (flowOf ys) n (not-below-squelch c (flowOf ys) n root (of-sum root h) k);
+        peak = peak-at c (vrmsOf (voltageSquares ys) n) (flowOf ys) n;
       }

@@ -74,7 +74,7 @@ sums-are c s x xs =
     ∙ one-joined (emptied s) v i (x .1) (lastRaw (x .1) xs) (worked c (x .1) xs)
     ∙ all-joined (s .seen) (s .raw) (lastRaw (x .1) xs) ((v, i) ∷ worked c (x .1) xs)
 
--- so an interval closes as document 01 works it from its samples
+-- so an interval closes as it is worked from its samples
 pub closes-whole : (first : Bool) (t : Settings) (c : Card) (s : Sums) (x : Sample) (xs : List Sample) (old : Closed) →
     closedOf first t c (addedAll c (emptied s) (x ∷ xs)) (length (x ∷ xs)) old ≡ intervalOf first t c (previous s (x .1)) (x ∷ xs) old
 unfolding intervalOf

@@ -1,8 +1,8 @@
--- Figures to check by, as two tables: C1 to C12 of document 01, and those of no load. Each line has what the definitions give, and what is
--- said. Gain one and other fields 0 unless said.
+-- Figures to check by, as two tables: C1 to C12 of document 01, and ours for no load (document 02, A1). Each line has what the definitions give
+-- and, beside it, what it must be. Gain one and other fields 0 unless said.
 use Prim.Native.Nat.{ℕ, _-_}
 use mathlib.Core.Bool.{true}
-use mathlib.Core.List.{List, [], _∷_, map}
+use mathlib.Core.List.{List, [], _∷_, _++_, map}
 use lib.IntN.{ℤ, pos, negsuc}
 use lib.ListN.{getD, set, length, replicate}
 use Rattle.card.specs.declared.Card.{Card}
@@ -96,27 +96,40 @@ figures =
     ∷ (pos (beyond .count), pos 0)  -- C12
     ∷ []
 
--- IRMS, P, and the counts of energy taken in and given back, with B 1
-unfoldable pub loaded : Card → List Sample → List ℤ
-loaded c xs =
-    let a = interval c xs .a in
-    irms c xs ∷ watt c xs ∷ pos (a .plus .count) ∷ pos (a .minus .count) ∷ []
+-- VRMS; IRMS, IPEAK, P, S, PF and crest; the counts of energy taken in and given back, with B 1
+unfoldable pub shownRow : Card → List Sample → List ℤ
+shownRow c xs =
+    let r = interval c xs in
+    r .vrms ∷ (r .a .figures ++ (pos (r .a .plus .count) ∷ pos (r .a .minus .count) ∷ []))
 
 -- one sample, at the highest voltage
 unfoldable pub atFull : ℤ → List Sample
 atFull i = (pos 8388607, i) ∷ []
 
--- currents 5 and -5, each at the end of the range that has its sign
+-- currents 5 and -5, with voltages 8,388,607 and -8,388,607
 unfoldable pub fives : List Sample
 fives = (pos 8388607, pos 5) ∷ (negsuc 8388606, negsuc 4) ∷ []
 
+-- what a squelched interval shows: VRMS 8,388,607 and this IPEAK, and nothing else
+unfoldable pub onlyPeak : ℕ → List ℤ
+onlyPeak k = pos 8388607 ∷ pos 0 ∷ pos k ∷ replicate 6 (pos 0)
+
 unfoldable pub noLoadFigures : List (List ℤ × List ℤ)
 noLoadFigures =
-    (loaded (having 7 (pos 101) plain) (atFull (pos 100)), pos 0 ∷ pos 0 ∷ pos 0 ∷ pos 0 ∷ [])  -- SQUELCH above the root: squelched
-    ∷ (loaded (having 7 (pos 100) plain) (atFull (pos 100)), pos 100 ∷ pos 99 ∷ pos 99 ∷ pos 0 ∷ [])  -- at the root: not
-    ∷ (loaded (having 7 (pos 101) plain) (atFull (negsuc 99)), pos 0 ∷ pos 0 ∷ pos 0 ∷ pos 0 ∷ [])  -- and the other direction
-    ∷ (loaded (having 7 (pos 100) plain) (atFull (negsuc 99)), pos 100 ∷ negsuc 98 ∷ pos 0 ∷ pos 99 ∷ [])
-    ∷ (loaded plain (atFull (pos 0)), pos 0 ∷ pos 0 ∷ pos 0 ∷ pos 0 ∷ [])  -- no current, SQUELCH 0
-    ∷ (loaded (having 6 (pos 6) plain) fives, pos 0 ∷ pos 4 ∷ pos 8 ∷ pos 0 ∷ [])  -- root 0 and SQUELCH 0: P stays, and 4 times 2 is counted
-    ∷ (loaded (having 7 (pos 1) (having 6 (pos 6) plain)) fives, pos 0 ∷ pos 0 ∷ pos 0 ∷ pos 0 ∷ [])  -- root 0 and SQUELCH 1: squelched
+    -- SQUELCH one above the root: squelched; at the root: not; in both directions
+    (shownRow (having 7 (pos 101) plain) (atFull (pos 100)), onlyPeak 100)
+    ∷ (
+      shownRow (having 7 (pos 100) plain) (atFull (pos 100)),
+      pos 8388607 ∷ pos 100 ∷ pos 100 ∷ pos 99 ∷ pos 99 ∷ pos 4194304 ∷ pos 65536 ∷ pos 99 ∷ pos 0 ∷ [],
+    )
+    ∷ (shownRow (having 7 (pos 101) plain) (atFull (negsuc 99)), onlyPeak 100)
+    ∷ (
+      shownRow (having 7 (pos 100) plain) (atFull (negsuc 99)),
+      pos 8388607 ∷ pos 100 ∷ pos 100 ∷ negsuc 98 ∷ pos 99 ∷ negsuc 4194303 ∷ pos 65536 ∷ pos 0 ∷ pos 99 ∷ [],
+    )
+    -- no current and SQUELCH 0
+    ∷ (shownRow plain (atFull (pos 0)), onlyPeak 0)
+    -- root 0 and SQUELCH 0: P stays, and 4 times 2 is counted; SQUELCH 1: squelched
+    ∷ (shownRow (having 6 (pos 6) plain) fives, pos 8388607 ∷ pos 0 ∷ pos 5 ∷ pos 4 ∷ pos 0 ∷ pos 0 ∷ pos 0 ∷ pos 8 ∷ pos 0 ∷ [])
+    ∷ (shownRow (having 7 (pos 1) (having 6 (pos 6) plain)) fives, onlyPeak 5)
     ∷ []

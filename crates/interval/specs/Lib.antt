@@ -1,4 +1,4 @@
--- One interval, as document 01 has it under "From samples to an interval": its close, and the whole of it.
+-- One interval, as document 01 has it under "From samples to an interval", with A1 of document 02: its close, and the whole of it.
 pub mod Close
 pub mod Whole
 pub mod Rms

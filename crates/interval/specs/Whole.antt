@@ -1,4 +1,4 @@
--- A whole interval, worked from its card and the list of its samples alone: what one works out by hand from document 01.
+-- A whole interval, worked from its card and the list of its samples alone: what one works out by hand from document 01 and A1 of document 02.
 -- `proofs/Wholes.antt` shows that the sums which are kept sample by sample are these.
 use Prim.Native.Nat.{ℕ, _+_, max}
 use mathlib.Core.Bool.{Bool, true}

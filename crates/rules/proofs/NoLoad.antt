@@ -12,7 +12,7 @@ use Rattle.root.proofs.Roots.{root-of}
 use Rattle.card.specs.declared.Card.{Card}
 use Rattle.sample.specs.declared.Flow.{Flow}
 use Rattle.sample.specs.Fields.{irmsoffs, squelch, poffs}
-use Rattle.rules.specs.Rules.{rms, squelched, activeOf, apparentOf, factorOf, crestOf}
+use Rattle.rules.specs.Rules.{rms, belowSquelch, activeOf, apparentOf, factorOf, crestOf}
 use Rattle.rules.specs.Source.{currentRoot, isSquelched, irmsOf, wattOf, ipeakOf, six, figuresOf}
 
 module _ (c : Card) (f : Flow) (n : ℕ) where
@@ -22,11 +22,11 @@ module _ (c : Card) (f : Flow) (n : ℕ) where
   root-is r h = ap (λ (x : ℕ). capped x) (root-of .only (f .ii / n - irmsoffs c * irmsoffs c) r h)
 
   pub below-squelch : (r : ℕ) → Root (f .ii / n - irmsoffs c * irmsoffs c) r → capped r < squelch c → isSquelched c f n ≡ true
-  unfolding isSquelched squelched
+  unfolding isSquelched belowSquelch
   below-squelch r h k = lt-ltb (currentRoot c f n) (squelch c) (subst (λ (x : ℕ). x < squelch c) (root-is r h) k)
 
   pub not-below-squelch : (r : ℕ) → Root (f .ii / n - irmsoffs c * irmsoffs c) r → squelch c ≤ capped r → isSquelched c f n ≡ false
-  unfolding isSquelched squelched
+  unfolding isSquelched belowSquelch
   not-below-squelch r h k = le-ltb (currentRoot c f n) (squelch c) (subst (λ (x : ℕ). squelch c ≤ x) (root-is r h) k)
 
   -- nothing of the current is left but IPEAK

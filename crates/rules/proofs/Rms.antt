@@ -9,7 +9,7 @@ use Rattle.root.proofs.Roots.{root-of}
 use Rattle.card.specs.declared.Card.{Card}
 use Rattle.sample.specs.declared.Flow.{Flow}
 use Rattle.sample.specs.Fields.{irmsoffs, squelch}
-use Rattle.rules.specs.Rules.{rms, squelched}
+use Rattle.rules.specs.Rules.{rms, belowSquelch}
 use Rattle.rules.specs.Source.{vrmsOf, currentRoot, isSquelched, irmsOf}
 use Rattle.rules.specs.Rms.{RootShown, RootSquelched}
 
@@ -22,7 +22,7 @@ vrms-root vv n =
 
 -- of the sum of n current squares, by a card
 pub irms-root : (c : Card) (f : Flow) (n : ℕ) → RootSquelched (f .ii / n - irmsoffs c * irmsoffs c) (squelch c) (pos (irmsOf c f n))
-unfolding irmsOf isSquelched currentRoot rms squelched
+unfolding irmsOf isSquelched currentRoot rms belowSquelch
 irms-root c f n =
     let x = f .ii / n - irmsoffs c * irmsoffs c in
     record {

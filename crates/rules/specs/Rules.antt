@@ -12,9 +12,9 @@ use Rattle.root.specs.Root.{rootOf}
 unfoldable pub rms : ℕ → ℕ → ℕ → ℕ
 rms sum n less = capped (rootOf (sum / n - less))
 
--- squelched: that root is below SQUELCH; so with SQUELCH 0 nothing is
-unfoldable pub squelched : ℕ → ℕ → Bool
-squelched squelch root = ltb root squelch
+-- whether that root is below SQUELCH; it never is where SQUELCH is 0
+unfoldable pub belowSquelch : ℕ → ℕ → Bool
+belowSquelch squelch root = ltb root squelch
 
 -- sum of products / (n times 2^23), toward zero, clipped; then its size less POFFS, or 0 if that is not positive, with its sign kept
 unfoldable pub activeOf : ℤ → ℕ → ℕ → ℤ

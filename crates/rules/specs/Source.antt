@@ -7,24 +7,25 @@ use Rattle.range.specs.Range.{capped}
 use Rattle.card.specs.declared.Card.{Card}
 use Rattle.sample.specs.declared.Flow.{Flow}
 use Rattle.sample.specs.Fields.{irmsoffs, squelch, poffs}
-use Rattle.rules.specs.Rules.{rms, squelched, activeOf, apparentOf, factorOf, crestOf}
+use Rattle.rules.specs.Rules.{rms, belowSquelch, activeOf, apparentOf, factorOf, crestOf}
 
 -- VRMS, of the sum of the voltage squares
 unfoldable pub vrmsOf : ℕ → ℕ → ℕ
 vrmsOf vv n = rms vv n 0
 
--- the root of the current, by which an interval is squelched: of the mean square less IRMSOFFS squared
+-- the root of the current: of its mean square, less IRMSOFFS squared and not below 0; at most 8,388,607
 unfoldable pub currentRoot : Card → Flow → ℕ → ℕ
 currentRoot c f n = rms (f .ii) n (irmsoffs c * irmsoffs c)
 
+-- an interval is squelched where that root is below SQUELCH
 unfoldable pub isSquelched : Card → Flow → ℕ → Bool
-isSquelched c f n = squelched (squelch c) (currentRoot c f n)
+isSquelched c f n = belowSquelch (squelch c) (currentRoot c f n)
 
 -- IRMS: that root; 0 if squelched
 unfoldable pub irmsOf : Card → Flow → ℕ → ℕ
 irmsOf c f n = cond (isSquelched c f n) 0 (currentRoot c f n)
 
--- P; 0 if squelched
+-- P; 0 if squelched (document 02, A1)
 unfoldable pub wattOf : Card → Flow → ℕ → ℤ
 wattOf c f n = cond (isSquelched c f n) (pos 0) (activeOf (f .vi) n (poffs c))
 

@@ -3,7 +3,7 @@ ghost use mathlib.Core.Path.{_≡_};
 ghost use Prim.Native.Nat.{_≤_, _*_};
 ghost use lib.IntN.{natAbs};
 ghost use Rattle.range.specs.Range.{capped};
-ghost use Rattle.rules.specs.Rules.{rms, squelched, activeOf, apparentOf, factorOf, crestOf};
+ghost use Rattle.rules.specs.Rules.{rms, belowSquelch, activeOf, apparentOf, factorOf, crestOf};
 ghost use Rattle.sample.specs.Fields.{squelch, poffs};
 ghost use Rattle.rules.specs.Source.{vrmsOf, currentRoot, ipeakOf, six, figuresOf};
 use card::Card;
@@ -76,16 +76,16 @@ fn current_root(c: Card, f: Flow, n: u32) -> u32
     root_mean_square(f.ii, n, number::square(x[IRMSOFFS]))
 }
 
-// Whether an interval with that root is squelched.
-fn is_squelched(c: Card, root: u32) -> bool
-    ensures { λ r. ⌜ r ≡ squelched (squelch c) root ⌝ }
+// Whether that root is below the card's SQUELCH.
+fn below_squelch(c: Card, root: u32) -> bool
+    ensures { λ r. ⌜ r ≡ belowSquelch (squelch c) root ⌝ }
 {
     let x = c.fields;
     (root as u64) < number::size(x[SQUELCH] as i64)
 }
 
 // P where the interval is not squelched.
-fn watt(c: Card, f: Flow, n: u32) -> i32
+fn active_power(c: Card, f: Flow, n: u32) -> i32
     ensures { λ r. ⌜ r ≡ activeOf (f .vi) n (poffs c) ⌝ }
 {
     let x = c.fields;
@@ -116,8 +116,8 @@ pub fn figures(c: Card, v: u32, f: Flow, n: u32) -> [i32; 6]
     let volts = range::cap(v as u64);
     let root = current_root(c, f, n);
     let peak = ipeak(f);
-    let p = watt(c, f, n);
-    if is_squelched(c, root) {
+    let p = active_power(c, f, n);
+    if below_squelch(c, root) {
         return lay(volts, 0, peak, 0);
     }
     lay(volts, root, peak, p)

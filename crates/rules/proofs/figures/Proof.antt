@@ -19,11 +19,11 @@ current-root-requires c κs = search needs
 ipeak-requires : tie.Need-ipeak-requires
 ipeak-requires c κs = search needs
 
-watt-requires : tie.Need-watt-requires
-watt-requires c κs = search needs
+active-power-requires : tie.Need-active-power-requires
+active-power-requires c κs = search needs
 
-is-squelched-requires : tie.Need-is-squelched-requires
-is-squelched-requires c κs = search needs
+below-squelch-requires : tie.Need-below-squelch-requires
+below-squelch-requires c κs = search needs
 
 lay-requires : tie.Need-lay-requires
 unfolding ipeakOf
@@ -38,7 +38,7 @@ returns c =
     let k = s .before .before in
     let r = k .before in
     let v = r .before in
-    let h = sym (s .is-squelched .ensures) ∙ c .before .if1 .taken in
+    let h = sym (s .below-squelch .ensures) ∙ c .before .if1 .taken in
     rw (c .lay .ensures, v .cap .ensures, k .ipeak .ensures, rw (r .current-root .ensures) at h)
 
 lay-requires-2 : tie.Need-lay-requires-2
@@ -56,9 +56,9 @@ returns-2 c =
     let k = p .before in
     let r = k .before in
     let v = r .before in
-    let h = sym (s .is-squelched .ensures) ∙ c .before .if1 .left in
-    let hp : SFits w32 (p .watt .result) = sfits-of (p .watt .ok) in
-    rw (c .lay2 .ensures, toZ-ofZ hp, v .cap .ensures, k .ipeak .ensures, rw (r .current-root .ensures) at h, r .current-root .ensures, p .watt .ensures)
+    let h = sym (s .below-squelch .ensures) ∙ c .before .if1 .left in
+    let hp : SFits w32 (p .active-power .result) = sfits-of (p .active-power .ok) in
+    rw (c .lay2 .ensures, toZ-ofZ hp, v .cap .ensures, k .ipeak .ensures, rw (r .current-root .ensures) at h, r .current-root .ensures, p .active-power .ensures)
 
 pub figures-spec : {M : Type 1} → statement M
 figures-spec =
@@ -67,8 +67,8 @@ figures-spec =
     cap-requires
     current-root-requires
     ipeak-requires
-    watt-requires
-    is-squelched-requires
+    active-power-requires
+    below-squelch-requires
     lay-requires
     returns
     lay-requires-2

@@ -1,4 +1,4 @@
--- `is_squelched` meets its contract.
+-- `below_squelch` meets its contract.
 use mathlib.Core.Path.{_≡_}
 use lib.IntN.{pos, natAbs}
 use lib.ListN.{getD}
@@ -6,10 +6,10 @@ use mir.Syntax.{w32}
 use mir.Val.{SFits}
 use mir.Facts.{toZ-ofZ}
 use Rattle.number.proofs.Fits.{ranges, widen}
-use Rattle.rules.specs.Rules.{squelched}
+use Rattle.rules.specs.Rules.{belowSquelch}
 use borrow.Author.Needs.{needs}
-use Rattle.rules.proofs.is_squelched.Statement.{statement}
-use Rattle.rules.proofs.is_squelched.Tie as tie
+use Rattle.rules.proofs.below_squelch.Statement.{statement}
+use Rattle.rules.proofs.below_squelch.Tie as tie
 
 array-copy-out-size : tie.Need-array-copy-out-size
 array-copy-out-size c = search needs
@@ -30,8 +30,8 @@ level c =
     rw (toZ-ofZ h, toZ-ofZ (widen h)) at (c .size .ensures)
 
 returns : tie.Need-returns
-unfolding squelched
+unfolding belowSquelch
 returns c = rw (level c)
 
-pub is-squelched-spec : {M : Type 1} → statement M
-is-squelched-spec = tie.close (tie.spec array-copy-out-size cast-size size-requires returns)
+pub below-squelch-spec : {M : Type 1} → statement M
+below-squelch-spec = tie.close (tie.spec array-copy-out-size cast-size size-requires returns)

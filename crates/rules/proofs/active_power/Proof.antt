@@ -1,12 +1,12 @@
--- `watt` meets its contract.
+-- `active_power` meets its contract.
 use borrow.Author.Needs.{needs, sfits-of}
 use lib.IntN.{pos}
 use lib.ListN.{getD}
 use mir.Syntax.{w32, w64}
 use mir.Val.{SFits}
 use mir.Facts.{toZ-ofZ}
-use Rattle.rules.proofs.watt.Statement.{statement}
-use Rattle.rules.proofs.watt.Tie as tie
+use Rattle.rules.proofs.active_power.Statement.{statement}
+use Rattle.rules.proofs.active_power.Tie as tie
 
 array-copy-out-active : tie.Need-array-copy-out-active
 array-copy-out-active c = search needs
@@ -21,5 +21,5 @@ returns c =
     let hs : SFits w64 (start .args .f .vi) = search needs in
     rw (toZ-ofZ (sfits-of {w = w32} (c .active .ok)), c .active .ensures, toZ-ofZ h7, toZ-ofZ hs)
 
-pub watt-spec : {M : Type 1} → statement M
-watt-spec = tie.close (tie.spec array-copy-out-active active-requires returns)
+pub active-power-spec : {M : Type 1} → statement M
+active-power-spec = tie.close (tie.spec array-copy-out-active active-requires returns)
