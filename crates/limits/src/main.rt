@@ -69,8 +69,7 @@ const PLAIN: [i64; 8] = [0, 0, 2097152, 2097152, 0, 0, 0, 0];
 // A module whose card 0417 waits.
 fn with_card() -> Module {
     let s = Module::start(4096, 1, off());
-    let fresh = s.after;
-    let o = fresh.open(0, b"0417");
+    let o = s.after.open(0, b"0417");
     let mut m = o.after;
     let mut k: usize = 0;
     while k < 8 {
