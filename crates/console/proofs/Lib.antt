@@ -4,6 +4,7 @@ pub mod NumberLaws
 pub mod ItemLaws
 pub mod WordLaws
 pub mod UnreadLaws
+pub mod WhyLaws
 pub mod TurnLaws
 pub mod AnswerLaws
 pub mod SessionLaws

@@ -3,6 +3,7 @@ use Prim.Native.Nat.{ℕ, _^_, _≤_, _<_}
 use mathlib.Core.Path.{_≡_, refl, sym, ap, _∙_}
 use mathlib.Core.Bool.{true, false}
 use mathlib.Core.List.{List, [], _∷_}
+use mathlib.Core.Logic.{⊎-elim}
 use native.Mathlib.Omega.{arith}
 use lib.Dec.{lit<}
 use lib.IntN.{ℤ, pos}
@@ -12,19 +13,22 @@ use lib.Seq.{getD-take}
 use mir.Syntax.{w64}
 use mir.Val.{toZ, ofZ}
 use mir.Facts.{toZ-ofZ}
+use types.Run.{OneOf}
+use denote.Enum.Declared.{tagOf}
 use borrow.Author.Tests.{lt-ltb, le-ltb}
 use Rattle.aberzhan.specs.declared.Module.{Module}
 use Rattle.aberzhan.specs.Module.{openOf, blockOf}
 use Rattle.console.specs.declared.words.Word.{Word}
 use Rattle.console.specs.declared.words.Word.the-variants.{Start, Open, Write, Commit, Drop, Hold, Read, Block, Cards, Help, Other}
 use Rattle.console.specs.declared.words.Kind.the-variants as kind
-use Rattle.console.specs.declared.unread.Why.the-variants.{TooLong, Missing, More}
+use Rattle.console.specs.declared.unread.Why.the-variants.{TooLong, NoStep, Missing, More}
 use Rattle.console.specs.declared.items.Row.{Row}
 use Rattle.console.specs.Texts.{beginsWith, lengthTo}
 use Rattle.console.specs.Items.{rowOf, samples, Filled}
 use Rattle.console.specs.Words.{wordOf, itemsOf}
 use Rattle.console.specs.Unread.{stoppedAt, sideStopped}
 use Rattle.console.specs.Turns.{nth, unreadTurn, steppedTurn, itemsTurn, withItems, withText, currentsTurn, withSamples, wordTurn, turnOf}
+use Rattle.console.proofs.words.Word as Word-type
 use Rattle.console.proofs.ItemLaws.{row-count}
 
 -- a number that is read from the buffer is the number
@@ -59,6 +63,35 @@ items-enough m Block x = refl
 items-enough m Cards x = refl
 items-enough m Help x = refl
 items-enough m Other x = refl
+
+-- ---- an arm of a match that stands for several words
+-- a word without items of its own
+pub no-items : (m : Module) (w : Word) (x : List ℤ) → OneOf (1 ∷ 7 ∷ 10 ∷ []) (tagOf Word-type.the-type w) → unreadTurn m NoStep ≡ itemsTurn m w x
+no-items m Start x h = absurd (⊎-elim (λ e. omega arith) (⊎-elim (λ e. omega arith) (λ e. omega arith)) h)
+no-items m Open x h = refl
+no-items m Write x h = absurd (⊎-elim (λ e. omega arith) (⊎-elim (λ e. omega arith) (λ e. omega arith)) h)
+no-items m Commit x h = absurd (⊎-elim (λ e. omega arith) (⊎-elim (λ e. omega arith) (λ e. omega arith)) h)
+no-items m Drop x h = absurd (⊎-elim (λ e. omega arith) (⊎-elim (λ e. omega arith) (λ e. omega arith)) h)
+no-items m Hold x h = absurd (⊎-elim (λ e. omega arith) (⊎-elim (λ e. omega arith) (λ e. omega arith)) h)
+no-items m Read x h = absurd (⊎-elim (λ e. omega arith) (⊎-elim (λ e. omega arith) (λ e. omega arith)) h)
+no-items m Block x h = refl
+no-items m Cards x h = absurd (⊎-elim (λ e. omega arith) (⊎-elim (λ e. omega arith) (λ e. omega arith)) h)
+no-items m Help x h = absurd (⊎-elim (λ e. omega arith) (⊎-elim (λ e. omega arith) (λ e. omega arith)) h)
+no-items m Other x h = refl
+
+-- a word whose items are numbers and names alone
+pub with-items : (a b : ℕ) (m : Module) (w : Word) (rest : List ℕ) → OneOf (0 ∷ 2 ∷ 3 ∷ 4 ∷ 5 ∷ 6 ∷ 8 ∷ 9 ∷ []) (tagOf Word-type.the-type w) → withItems m w rest ≡ wordTurn a b m w rest
+with-items a b m Start rest h = refl
+with-items a b m Open rest h = absurd (⊎-elim (λ e. omega arith) (⊎-elim (λ e. omega arith) (⊎-elim (λ e. omega arith) (⊎-elim (λ e. omega arith) (⊎-elim (λ e. omega arith) (⊎-elim (λ e. omega arith) (⊎-elim (λ e. omega arith) (λ e. omega arith))))))) h)
+with-items a b m Write rest h = refl
+with-items a b m Commit rest h = refl
+with-items a b m Drop rest h = refl
+with-items a b m Hold rest h = refl
+with-items a b m Read rest h = refl
+with-items a b m Block rest h = absurd (⊎-elim (λ e. omega arith) (⊎-elim (λ e. omega arith) (⊎-elim (λ e. omega arith) (⊎-elim (λ e. omega arith) (⊎-elim (λ e. omega arith) (⊎-elim (λ e. omega arith) (⊎-elim (λ e. omega arith) (λ e. omega arith))))))) h)
+with-items a b m Cards rest h = refl
+with-items a b m Help rest h = refl
+with-items a b m Other rest h = absurd (⊎-elim (λ e. omega arith) (⊎-elim (λ e. omega arith) (⊎-elim (λ e. omega arith) (⊎-elim (λ e. omega arith) (⊎-elim (λ e. omega arith) (⊎-elim (λ e. omega arith) (⊎-elim (λ e. omega arith) (λ e. omega arith))))))) h)
 
 -- ---- a line with numbers and names alone, once they stand in a buffer
 module _ (m : Module) (w : Word) (rest : List ℕ) (r : Row) (b : List ℤ) (f : Filled r b (rowOf (itemsOf w) rest)) where

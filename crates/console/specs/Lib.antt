@@ -5,6 +5,7 @@ pub mod Items
 pub mod Words
 pub mod Unread
 pub mod Turns
+pub mod Inside
 pub mod Answers
 pub mod Session
 pub mod Unchanged

@@ -5,6 +5,7 @@ ghost use Prim.Native.Nat.{_+_, _≤_};
 ghost use lib.ListN.{length, take};
 ghost use Rattle.serial.specs.Ascii.{ascii};
 ghost use Rattle.console.specs.Unread.{whyWords};
+ghost use Rattle.console.specs.Inside.{placeOf};
 ghost use Rattle.console.specs.Answers.{unreadLine, refusedLine, valueLine, heldLine, cardsLine, helpText, answerText};
 use super::output::put;
 use super::output::put_card;
@@ -30,23 +31,74 @@ const HELP: [u8; 909] = *b"\
     # A terminal cuts a pasted line at 4,095 bytes: send long blocks from a file, or as several blocks.\n\
     # Numbers are decimal, or hexadecimal behind 0x. One space parts two items. A line that begins with # is a comment.\n";
 
+// A row of 48 bytes for each reason why a line is not read, spaces behind its words.
+const WHYS: [u8; 480] = *b"\
+    longer than 131,071 bytes                       \
+    no such step                                    \
+    an item missing                                 \
+    not a 64-bit number                             \
+    neither a 64-bit number nor a field's name      \
+    neither a 64-bit number nor a register's name   \
+    more items than the step has                    \
+    no bar between voltages and currents            \
+    more than 8,192 samples on a side               \
+    not a 32-bit number                             \
+";
+
+// Where a text stands among the rows, and where it ends.
+pub struct Place {
+    pub from: usize,
+    pub end: usize,
+}
+
+fn place_of(why: Why) -> Place
+    ensures { λ r. ⌜ r ≡ placeOf why ⌝ }
+{
+    match why {
+        Why::TooLong => Place { from: 0, end: 25 },
+        Why::NoStep => Place { from: 48, end: 60 },
+        Why::Missing => Place { from: 96, end: 111 },
+        Why::NotNumber => Place {
+            from: 144,
+            end: 163,
+        },
+        Why::NotField => Place {
+            from: 192,
+            end: 234,
+        },
+        Why::NotRegister => Place {
+            from: 240,
+            end: 285,
+        },
+        Why::More => Place {
+            from: 288,
+            end: 316,
+        },
+        Why::NoBar => Place {
+            from: 336,
+            end: 372,
+        },
+        Why::TooMany => Place {
+            from: 384,
+            end: 417,
+        },
+        Why::NotSample => Place {
+            from: 432,
+            end: 451,
+        },
+    }
+}
+
 // Why a line is not read, in words.
 fn put_why(out: &mut [u8], used: usize, why: Why) -> usize
     requires { ⌜ used + 48 ≤ length (now out) ⌝ }
     ensures { λ r. ⌜ (take r (now (out .exit)) ≡ take used (now (out .entry)) ++ ascii (whyWords why)) × (r ≤ used + 48) ⌝ }
 {
-    match why {
-        Why::TooLong => put(out, used, b"longer than 131,071 bytes"),
-        Why::NoStep => put(out, used, b"no such step"),
-        Why::Missing => put(out, used, b"an item missing"),
-        Why::NotNumber => put(out, used, b"not a 64-bit number"),
-        Why::NotField => put(out, used, b"neither a 64-bit number nor a field's name"),
-        Why::NotRegister => put(out, used, b"neither a 64-bit number nor a register's name"),
-        Why::More => put(out, used, b"more items than the step has"),
-        Why::NoBar => put(out, used, b"no bar between voltages and currents"),
-        Why::TooMany => put(out, used, b"more than 8,192 samples on a side"),
-        Why::NotSample => put(out, used, b"not a 32-bit number"),
-    }
+    let rows = WHYS;
+    let p = place_of(why);
+    let from = p.from;
+    let end = p.end;
+    put(out, used, &rows[from..end])
 }
 
 fn unread_line(out: &mut [u8], used: usize, why: Why) -> usize

@@ -1,5 +1,6 @@
 // Standard input, taken apart into lines. A line may come in several reads, so its bytes are kept until its end.
 ghost use mathlib.Core.Path.{_≡_};
+ghost use mathlib.Core.Bool.{true};
 ghost use mathlib.Core.List.{_++_};
 ghost use Prim.Native.Nat.{_+_, _≤_};
 ghost use lib.ListN.{length, take};
@@ -27,16 +28,20 @@ pub struct More {
 }
 
 // Before any start the module is that of a refused one.
-fn begun() -> Session
-    ensures { λ r. ⌜ r ≡ record { «module» = fresh; kept = 0; used = 0 } ⌝ }
+fn begun() -> More
+    ensures { λ r. ⌜ r ≡ record { session = record { «module» = fresh; kept = 0; used = 0 }; more = true } ⌝ }
 {
     let off = word_addr(0);
     let s = Module::start(0, 0, [off, off, off, off, off, off]);
     let module = s.after;
-    Session {
+    let session = Session {
         module,
         kept: 0,
         used: 0,
+    };
+    More {
+        session,
+        more: true,
     }
 }
 
@@ -66,35 +71,28 @@ fn is_silent(line: &[u8]) -> bool
 }
 
 // At a line's end.
-fn end_line(s: Session, line: &[u8], v: &mut [i32], i: &mut [i32], out: &mut [u8]) -> Session
+fn end_line(mut s: Session, line: &[u8], v: &mut [i32], i: &mut [i32], out: &mut [u8]) -> Session
     requires { ⌜ Ready s (now line) (now out) (now v) (now i) 1 ⌝ }
     ensures { λ r. ⌜ talkOf r (now (line .entry)) (now (out .exit)) ≡ ended (talkOf s (now (line .entry)) (now (out .entry))) ⌝ }
     ensures { λ r. ⌜ (r .kept ≡ 0) × (r .used ≤ s .used + 1024) ⌝ }
 {
     let kept = s.kept;
-    let used = s.used;
-    let module = s.module;
+    s.kept = 0;
     let n = line_length(&line[..kept]);
     if is_silent(&line[..n]) {
-        return Session {
-            module,
-            kept: 0,
-            used,
-        };
+        return s;
     }
-    let t = take_line(module, &line[..n], v, i);
+    let t = take_line(s.module, &line[..n], v, i);
+    let used = put_answer(out, s.used, t);
+    s.used = used;
     let after = t.after;
-    let used = put_answer(out, used, t);
-    Session {
-        module: after,
-        kept: 0,
-        used,
-    }
+    s.module = after;
+    s
 }
 
 // The bytes of one read: lines, and perhaps the beginning of another.
 fn take_part(
-    s: Session,
+    mut s: Session,
     part: &[u8],
     line: &mut [u8],
     v: &mut [i32],
@@ -105,7 +103,6 @@ fn take_part(
     ensures { λ r. ⌜ talkOf r (now (line .exit)) (now (out .exit)) ≡ talked (talkOf s (now (line .entry)) (now (out .entry))) (now (part .entry)) ⌝ }
     ensures { λ r. ⌜ (r .kept ≤ 131073) × (r .used ≤ length (now (out .exit))) ⌝ }
 {
-    let mut s = s;
     let mut at = 0;
     while at < part.len() {
         let n = length_to(b'\n', &part[at..]);
@@ -122,20 +119,14 @@ fn take_part(
 }
 
 // Writes the answers out; an output that takes no more ends the session.
-fn write_out(s: Session, out: &[u8]) -> More
+fn write_out(mut s: Session, out: &[u8]) -> More
     requires { ⌜ s .used ≤ length (now out) ⌝ }
     ensures { λ r. ⌜ r .session ≡ written s ⌝ }
 {
     let used = s.used;
-    let kept = s.kept;
-    let module = s.module;
+    s.used = 0;
     let more = print(&out[..used]);
-    let session = Session {
-        module,
-        kept,
-        used: 0,
-    };
-    More { session, more }
+    More { session: s, more }
 }
 
 fn print(text: &[u8]) -> bool {
@@ -158,7 +149,7 @@ fn tell_failure(got: isize) {
 
 // One read. Its answers are written before the next, so that whoever types sees each answer.
 fn read_some(
-    s: Session,
+    mut s: Session,
     chunk: &mut [u8],
     line: &mut [u8],
     v: &mut [i32],
@@ -177,26 +168,31 @@ fn read_some(
             more: false,
         };
     }
-    let t = take_part(s, &chunk[..n], line, v, i, out);
-    write_out(t, out)
+    s = take_part(s, &chunk[..n], line, v, i, out);
+    write_out(s, out)
+}
+
+// A last line may lack its line feed.
+fn end_input(mut s: Session, line: &[u8], v: &mut [i32], i: &mut [i32], out: &mut [u8])
+    requires { ⌜ Ready s (now line) (now out) (now v) (now i) 1 ⌝ }
+{
+    s = end_line(s, line, v, i, out);
+    write_out(s, out);
 }
 
 // Reads to the end of the input. Nothing says that there is one, so the turns are counted down, from a number that no run uses up.
 pub(super) fn run(chunk: &mut [u8], line: &mut [u8], v: &mut [i32], i: &mut [i32], out: &mut [u8])
     requires { ⌜ Rooms (now chunk) (now line) (now out) (now v) (now i) ⌝ }
 {
-    let mut s = begun();
+    let mut m = begun();
     let mut turns = u64::MAX;
     while turns > 0 {
-        let m = read_some(s, chunk, line, v, i, out);
-        let t = m.session;
-        s = t;
+        m = read_some(m.session, chunk, line, v, i, out);
         if m.more {
             turns -= 1;
         } else {
             turns = 0;
         }
     }
-    let last = end_line(s, line, v, i, out);
-    write_out(last, out);
+    end_input(m.session, line, v, i, out);
 }

@@ -2,6 +2,9 @@
 ghost use mathlib.Core.Path.{_≡_};
 ghost use Prim.Native.Nat.{_<_};
 ghost use lib.ListN.{length};
+ghost use Rattle.address.specs.Addresses.{byteAddr};
+ghost use Rattle.aberzhan.specs.Module.{holdOf, readOf};
+ghost use Rattle.console.specs.Inside.{slotsOf};
 ghost use Rattle.console.specs.Turns.{plainly, unreadTurn, saidOf, steppedTurn, heldSaid, heldTurn, readSaid, readTurn, cardsTurn};
 ghost use Rattle.console.specs.Turns.{startedTurn, startTurn, itemsTurn, withItems, withText, currentsTurn, withSamples, turnOf};
 use super::items::take_items;
@@ -16,11 +19,9 @@ use super::words::Word;
 use super::words::arity;
 use super::words::first_word;
 use super::words::kind_at;
-use aberzhan::Cards;
-use aberzhan::Holding;
-use aberzhan::Looked;
 use aberzhan::Module;
 use aberzhan::Stepped;
+use address::WordAddr;
 use address::byte_addr;
 use address::word_addr;
 use port::Reading;
@@ -94,9 +95,10 @@ fn said_of_hold(a: Answer) -> Said
     }
 }
 
-fn held(h: Holding) -> Turn
-    ensures { λ r. ⌜ r ≡ heldTurn h ⌝ }
+fn held(m: Module, port: i64) -> Turn
+    ensures { λ r. ⌜ r ≡ heldTurn (holdOf m port) ⌝ }
 {
+    let h = m.hold(port);
     let answer = h.answer;
     let serial = h.serial;
     let after = h.after;
@@ -120,9 +122,10 @@ fn said_of_read(a: Reading) -> Said
     }
 }
 
-fn looked(l: Looked) -> Turn
-    ensures { λ r. ⌜ r ≡ readTurn l ⌝ }
+fn looked(m: Module, port: i64, address: i64) -> Turn
+    ensures { λ r. ⌜ r ≡ readTurn (readOf m port (byteAddr address)) ⌝ }
 {
+    let l = m.read(port, byte_addr(address));
     let answer = l.answer;
     let after = l.after;
     plain(said_of_read(answer), after)
@@ -154,8 +157,9 @@ fn started(m: Module, s: Stepped) -> Turn
     }
 }
 
-fn start(m: Module, x: [i64; 8]) -> Turn
-    ensures { λ r. ⌜ r ≡ startTurn m x ⌝ }
+// The words that a start tracks.
+fn slots(x: [i64; 8]) -> [WordAddr; 6]
+    ensures { λ r. ⌜ r ≡ slotsOf x ⌝ }
 {
     let a = word_addr(x[2]);
     let b = word_addr(x[3]);
@@ -163,7 +167,13 @@ fn start(m: Module, x: [i64; 8]) -> Turn
     let d = word_addr(x[5]);
     let e = word_addr(x[6]);
     let f = word_addr(x[7]);
-    started(m, Module::start(x[0], x[1], [a, b, c, d, e, f]))
+    [a, b, c, d, e, f]
+}
+
+fn start(m: Module, x: [i64; 8]) -> Turn
+    ensures { λ r. ⌜ r ≡ startTurn m x ⌝ }
+{
+    started(m, Module::start(x[0], x[1], slots(x)))
 }
 
 // A step whose items are worth these numbers.
@@ -175,13 +185,11 @@ fn with_worths(m: Module, w: Word, x: [i64; 8]) -> Turn
         Word::Write => stepped(m.write(x[0], x[1], x[2])),
         Word::Commit => stepped(m.commit(x[0])),
         Word::Drop => stepped(m.drop(x[0])),
-        Word::Hold => held(m.hold(x[0])),
-        Word::Read => looked(m.read(x[0], byte_addr(x[1]))),
+        Word::Hold => held(m, x[0]),
+        Word::Read => looked(m, x[0], x[1]),
         Word::Cards => shown(m),
         Word::Help => plain(Said::Help, m),
-        Word::Open => unread(m, Why::NoStep),
-        Word::Block => unread(m, Why::NoStep),
-        Word::Other => unread(m, Why::NoStep),
+        _ => unread(m, Why::NoStep),
     }
 }
 
@@ -259,13 +267,6 @@ pub(super) fn take_line(m: Module, line: &[u8], v: &mut [i32], i: &mut [i32]) ->
         Word::Open => with_text(m, rest),
         Word::Block => with_samples(m, rest, v, i),
         Word::Other => unread(m, Why::NoStep),
-        Word::Start => with_items(m, w, rest),
-        Word::Write => with_items(m, w, rest),
-        Word::Commit => with_items(m, w, rest),
-        Word::Drop => with_items(m, w, rest),
-        Word::Hold => with_items(m, w, rest),
-        Word::Read => with_items(m, w, rest),
-        Word::Cards => with_items(m, w, rest),
-        Word::Help => with_items(m, w, rest),
+        _ => with_items(m, w, rest),
     }
 }

@@ -58,7 +58,7 @@ fn then_words(line: Line, number: usize) -> Line
 }
 
 // A name and a text.
-pub fn text_line(name: &[u8], text: &[u8]) -> Line
+pub(crate) fn text_line(name: &[u8], text: &[u8]) -> Line
     requires { ⌜ (length (now name) ≤ 20) × (length (now text) ≤ 20) ⌝ }
     ensures { λ r. ⌜ (shown r ≡ textLine (now (name .entry)) (now (text .entry))) × (r .len ≤ 96) ⌝ }
 {
@@ -66,7 +66,7 @@ pub fn text_line(name: &[u8], text: &[u8]) -> Line
 }
 
 // A name and a number.
-pub fn number_line(name: &[u8], v: i64) -> Line
+pub(crate) fn number_line(name: &[u8], v: i64) -> Line
     requires { ⌜ length (now name) ≤ 20 ⌝ }
     ensures { λ r. ⌜ (shown r ≡ numberLine (now (name .entry)) v) × (r .len ≤ 96) ⌝ }
 {
@@ -74,7 +74,7 @@ pub fn number_line(name: &[u8], v: i64) -> Line
 }
 
 // A refusal's number and its words.
-pub fn refused_line(number: u8) -> Line
+pub(crate) fn refused_line(number: u8) -> Line
     ensures { λ r. ⌜ (shown r ≡ refusedLine number) × (r .len ≤ 96) ⌝ }
 {
     let head = then_number(then(then(empty(), b"REFUSED"), b" "), number as i64);

@@ -19,7 +19,7 @@ fn print_listing(book: &[u8]) {
 }
 
 // A file that is no book is refused with its words.
-pub fn print_book(book: &[u8]) {
+pub(crate) fn print_book(book: &[u8]) {
     if book::is_book(book) {
         print_listing(book);
     } else {

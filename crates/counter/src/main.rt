@@ -6,6 +6,8 @@ mod lines;
 mod list;
 mod orders;
 
+ghost use Prim.Native.Nat.{_≤_};
+ghost use lib.ListN.{length};
 use libc::STDOUT_FILENO;
 use lines::Line;
 use orders::Order;
@@ -88,20 +90,26 @@ fn read_values() -> Fields {
     Fields { unread: 0, fields }
 }
 
+fn print_field(name: &[u8], value: i64)
+    requires { ⌜ length (now name) ≤ 20 ⌝ }
+{
+    print(lines::number_line(name, value));
+}
+
 fn print_card(card: &[u8], label: &[u8]) {
     let mut f = [0i64; 8];
     stock::read::stock_fields(card, &mut f);
     if label.len() <= 12 {
         print(lines::text_line(b"SERIAL", label));
     }
-    print(lines::number_line(b"VOFFS", f[0]));
-    print(lines::number_line(b"IOFFS", f[1]));
-    print(lines::number_line(b"VGAIN", f[2]));
-    print(lines::number_line(b"IGAIN", f[3]));
-    print(lines::number_line(b"PHASE", f[4]));
-    print(lines::number_line(b"IRMSOFFS", f[5]));
-    print(lines::number_line(b"SQUELCH", f[6]));
-    print(lines::number_line(b"POFFS", f[7]));
+    print_field(b"VOFFS", f[0]);
+    print_field(b"IOFFS", f[1]);
+    print_field(b"VGAIN", f[2]);
+    print_field(b"IGAIN", f[3]);
+    print_field(b"PHASE", f[4]);
+    print_field(b"IRMSOFFS", f[5]);
+    print_field(b"SQUELCH", f[6]);
+    print_field(b"POFFS", f[7]);
 }
 
 fn find(book: &[u8]) {

@@ -13,7 +13,7 @@ pub enum Order {
 }
 
 // The order of a word, where so many words stand on the command line.
-pub fn order_of(word: &[u8], words: usize) -> Order
+pub(crate) fn order_of(word: &[u8], words: usize) -> Order
     ensures { λ r. ⌜ r ≡ orderOf (now (word .entry)) words ⌝ }
 {
     if serial::same_text(word, b"find") & (words == 4) {

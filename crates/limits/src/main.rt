@@ -41,16 +41,18 @@ fn off() -> [WordAddr; 6] {
     [WordAddr(0); 6]
 }
 
+fn open(m: Module, serial: &[u8]) {
+    let s = m.open(0, serial);
+    say_step(s);
+}
+
 // 12 digits taken, 13 refused.
 fn serials() {
     let s = Module::start(1, 1, off());
-    let m = s.after;
     say(b"SERIAL OF 12 DIGITS ");
-    let a = m.open(0, b"012345678901");
-    say_step(a);
+    open(s.after, b"012345678901");
     say(b"SERIAL OF 13 DIGITS ");
-    let b = m.open(0, b"0123456789012");
-    say_step(b);
+    open(s.after, b"0123456789012");
 }
 
 // N 4,096 taken, 4,097 refused.
@@ -69,8 +71,7 @@ const PLAIN: [i64; 8] = [0, 0, 2097152, 2097152, 0, 0, 0, 0];
 // A module whose card 0417 waits.
 fn with_card() -> Module {
     let s = Module::start(4096, 1, off());
-    let fresh = s.after;
-    let o = fresh.open(0, b"0417");
+    let o = s.after.open(0, b"0417");
     let mut m = o.after;
     let mut k: usize = 0;
     while k < 8 {

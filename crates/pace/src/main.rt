@@ -68,13 +68,11 @@ fn make_block(v: &mut [i32], i: &mut [i32]) {
     }
 }
 
-fn written(m: Module) -> Module {
-    let mut m = m;
+fn written(mut m: Module) -> Module {
     let mut k: usize = 0;
     while k < 8 {
         let s = m.write(0, (k + 1) as i64, FIELDS[k]);
-        let after = s.after;
-        m = after;
+        m = s.after;
         k += 1;
     }
     m
@@ -84,21 +82,17 @@ fn written(m: Module) -> Module {
 fn prepared() -> Module {
     let off = word_addr(0);
     let s = Module::start(400, 0x0001AFC8BB4C, [off, off, off, off, off, off]);
-    let fresh = s.after;
-    let o = fresh.open(0, b"0417");
-    let begun = o.after;
-    let m = written(begun);
+    let o = s.after.open(0, b"0417");
+    let m = written(o.after);
     let c = m.commit(0);
     c.after
 }
 
-fn fed(m: Module, n: u64, v: &[i32], i: &[i32]) -> Module {
-    let mut m = m;
+fn fed(mut m: Module, n: u64, v: &[i32], i: &[i32]) -> Module {
     let mut k: u64 = 0;
     while k < n {
         let s = m.block(v, i);
-        let after = s.after;
-        m = after;
+        m = s.after;
         k += 1;
     }
     m
@@ -132,13 +126,12 @@ fn print_registers(held: Module) {
 // The registers and the interval's number; without any block, why there are none.
 fn print_held(m: Module) {
     let h = m.hold(0);
-    let held = h.after;
     let answer = h.answer;
     if let Answer::Refused(n) = answer {
         io::write_all(STDOUT_FILENO, b"REFUSED ");
         io::print_decimal(STDOUT_FILENO, n as u64);
     } else {
-        print_registers(held);
+        print_registers(h.after);
         io::print_decimal(STDOUT_FILENO, h.number as u64);
     }
     io::write_all(STDOUT_FILENO, b"\n");

@@ -1,222 +1,65 @@
 -- `put_why` puts the words of a reason.
+use Prim.Native.Nat.{ℕ, _-_, _≤_}
+use mathlib.Core.Path.{_≡_, ap, _∙_}
+use mathlib.Core.List.{List, _++_}
 use native.Mathlib.Omega.{arith}
+use denote.Ref.{now}
+use lib.ListN.{take, drop}
 use Rattle.serial.specs.Ascii.{ascii}
+use Rattle.console.specs.declared.answers.Place.{Place}
 use Rattle.console.specs.Unread.{whyWords}
+use Rattle.console.proofs.WhyLaws.{rows, words-at, fits, short, within}
 use borrow.Author.Needs.{needs}
 use Rattle.console.proofs.answers.put_why.Statement.{statement}
 use Rattle.console.proofs.answers.put_why.Tie as tie
 
-enum-told : tie.Need-enum-told
-enum-told c = search needs
+begins : (c : tie.After-place-of) → c .place-of .result .from ≤ c .place-of .result .end
+begins c = rw (c .place-of .ensures) (within (c .before .before .args .why) .begins)
 
-slice-aggregate-put : tie.Need-slice-aggregate-put
-slice-aggregate-put c = search needs
+ends : (c : tie.After-place-of) → c .place-of .result .end ≤ 480
+ends c = rw (c .place-of .ensures) (within (c .before .before .args .why) .ends)
+
+words : (c : tie.After-place-of) → take (c .place-of .result .end - c .place-of .result .from) (drop (c .place-of .result .from) rows) ≡ ascii (whyWords (c .before .before .args .why))
+words c = ap (λ (p : Place). take (p .end - p .from) (drop (p .from) rows)) (c .place-of .ensures) ∙ words-at (c .before .before .args .why)
+
+place-of-requires : tie.Need-place-of-requires
+place-of-requires c κs = search needs
+
+sub-put : tie.Need-sub-put
+sub-put c = begins (c .before)
+
+part-put-start : tie.Need-part-put-start
+part-put-start c = omega (arith, begins (c .before .before), ends (c .before .before))
+
+part-put-end : tie.Need-part-put-end
+part-put-end c = omega (arith, begins (c .before .before), ends (c .before .before))
 
 put-requires : tie.Need-put-requires
-put-requires c κs = search needs
-
-enum-told-2 : tie.Need-enum-told-2
-enum-told-2 c = search needs
-
-slice-aggregate-put-2 : tie.Need-slice-aggregate-put-2
-slice-aggregate-put-2 c = search needs
-
-put-requires-2 : tie.Need-put-requires-2
-put-requires-2 c κs = search needs
-
-enum-told-3 : tie.Need-enum-told-3
-enum-told-3 c = search needs
-
-slice-aggregate-put-3 : tie.Need-slice-aggregate-put-3
-slice-aggregate-put-3 c = search needs
-
-put-requires-3 : tie.Need-put-requires-3
-put-requires-3 c κs = search needs
-
-enum-told-4 : tie.Need-enum-told-4
-enum-told-4 c = search needs
-
-slice-aggregate-put-4 : tie.Need-slice-aggregate-put-4
-slice-aggregate-put-4 c = search needs
-
-put-requires-4 : tie.Need-put-requires-4
-put-requires-4 c κs = search needs
-
-enum-told-5 : tie.Need-enum-told-5
-enum-told-5 c = search needs
-
-slice-aggregate-put-5 : tie.Need-slice-aggregate-put-5
-slice-aggregate-put-5 c = search needs
-
-put-requires-5 : tie.Need-put-requires-5
-put-requires-5 c κs = search needs
-
-enum-told-6 : tie.Need-enum-told-6
-enum-told-6 c = search needs
-
-slice-aggregate-put-6 : tie.Need-slice-aggregate-put-6
-slice-aggregate-put-6 c = search needs
-
-put-requires-6 : tie.Need-put-requires-6
-put-requires-6 c κs = search needs
-
-enum-told-7 : tie.Need-enum-told-7
-enum-told-7 c = search needs
-
-slice-aggregate-put-7 : tie.Need-slice-aggregate-put-7
-slice-aggregate-put-7 c = search needs
-
-put-requires-7 : tie.Need-put-requires-7
-put-requires-7 c κs = search needs
-
-enum-told-8 : tie.Need-enum-told-8
-enum-told-8 c = search needs
-
-slice-aggregate-put-8 : tie.Need-slice-aggregate-put-8
-slice-aggregate-put-8 c = search needs
-
-put-requires-8 : tie.Need-put-requires-8
-put-requires-8 c κs = search needs
-
-enum-told-9 : tie.Need-enum-told-9
-enum-told-9 c = search needs
-
-slice-aggregate-put-9 : tie.Need-slice-aggregate-put-9
-slice-aggregate-put-9 c = search needs
-
-put-requires-9 : tie.Need-put-requires-9
-put-requires-9 c κs = search needs
-
-enum-told-10 : tie.Need-enum-told-10
-enum-told-10 c = search needs
-
-slice-aggregate-put-10 : tie.Need-slice-aggregate-put-10
-slice-aggregate-put-10 c = search needs
-
-put-requires-10 : tie.Need-put-requires-10
-put-requires-10 c κs = search needs
+unfolding rows ascii
+put-requires c κs =
+    let s = c .before .before .before .before .before in
+    fits (s .args .why) _ (words (c .before .before .before)) (s .args .used) _ (s .pre)
 
 same-length : tie.Need-same-length
 same-length c = search needs
 
 returns : tie.Need-returns
-unfolding whyWords ascii
-returns c = (simp (c .before .before .put .ensures .0, c .before .before .before .before .before .enum-told .given .1), omega (arith, c .before .before .put .ensures .1))
-
-same-length-2 : tie.Need-same-length-2
-same-length-2 c = search needs
-
-returns-2 : tie.Need-returns-2
-unfolding whyWords ascii
-returns-2 c = (simp (c .before .before .put2 .ensures .0, c .before .before .before .before .before .enum-told2 .given .1), omega (arith, c .before .before .put2 .ensures .1))
-
-same-length-3 : tie.Need-same-length-3
-same-length-3 c = search needs
-
-returns-3 : tie.Need-returns-3
-unfolding whyWords ascii
-returns-3 c = (simp (c .before .before .put3 .ensures .0, c .before .before .before .before .before .enum-told3 .given .1), omega (arith, c .before .before .put3 .ensures .1))
-
-same-length-4 : tie.Need-same-length-4
-same-length-4 c = search needs
-
-returns-4 : tie.Need-returns-4
-unfolding whyWords ascii
-returns-4 c = (simp (c .before .before .put4 .ensures .0, c .before .before .before .before .before .enum-told4 .given .1), omega (arith, c .before .before .put4 .ensures .1))
-
-same-length-5 : tie.Need-same-length-5
-same-length-5 c = search needs
-
-returns-5 : tie.Need-returns-5
-unfolding whyWords ascii
-returns-5 c = (simp (c .before .before .put5 .ensures .0, c .before .before .before .before .before .enum-told5 .given .1), omega (arith, c .before .before .put5 .ensures .1))
-
-same-length-6 : tie.Need-same-length-6
-same-length-6 c = search needs
-
-returns-6 : tie.Need-returns-6
-unfolding whyWords ascii
-returns-6 c = (simp (c .before .before .put6 .ensures .0, c .before .before .before .before .before .enum-told6 .given .1), omega (arith, c .before .before .put6 .ensures .1))
-
-same-length-7 : tie.Need-same-length-7
-same-length-7 c = search needs
-
-returns-7 : tie.Need-returns-7
-unfolding whyWords ascii
-returns-7 c = (simp (c .before .before .put7 .ensures .0, c .before .before .before .before .before .enum-told7 .given .1), omega (arith, c .before .before .put7 .ensures .1))
-
-same-length-8 : tie.Need-same-length-8
-same-length-8 c = search needs
-
-returns-8 : tie.Need-returns-8
-unfolding whyWords ascii
-returns-8 c = (simp (c .before .before .put8 .ensures .0, c .before .before .before .before .before .enum-told8 .given .1), omega (arith, c .before .before .put8 .ensures .1))
-
-same-length-9 : tie.Need-same-length-9
-same-length-9 c = search needs
-
-returns-9 : tie.Need-returns-9
-unfolding whyWords ascii
-returns-9 c = (simp (c .before .before .put9 .ensures .0, c .before .before .before .before .before .enum-told9 .given .1), omega (arith, c .before .before .put9 .ensures .1))
-
-same-length-10 : tie.Need-same-length-10
-same-length-10 c = search needs
-
-returns-10 : tie.Need-returns-10
-unfolding whyWords ascii
-returns-10 c = (simp (c .before .before .put10 .ensures .0, c .before .before .before .before .before .enum-told10 .given .1), omega (arith, c .before .before .put10 .ensures .1))
+unfolding rows ascii
+returns c =
+    let s = c .before .before .before .before .before .before .before .before in
+    let e = c .before .before .put .ensures in (
+      e .0 ∙ ap (λ (t : List ℕ). take (s .args .used) (now (s .args .out)) ++ t) (words (c .before .before .before .before .before .before)),
+      short (s .args .why) _ (words (c .before .before .before .before .before .before)) (s .args .used) _ (e .1),
+    )
 
 pub put-why-spec : {M : Type 1} → statement M
 put-why-spec =
     tie.close
     (tie.spec
-    enum-told
-    slice-aggregate-put
+    place-of-requires
+    sub-put
+    part-put-start
+    part-put-end
     put-requires
-    enum-told-2
-    slice-aggregate-put-2
-    put-requires-2
-    enum-told-3
-    slice-aggregate-put-3
-    put-requires-3
-    enum-told-4
-    slice-aggregate-put-4
-    put-requires-4
-    enum-told-5
-    slice-aggregate-put-5
-    put-requires-5
-    enum-told-6
-    slice-aggregate-put-6
-    put-requires-6
-    enum-told-7
-    slice-aggregate-put-7
-    put-requires-7
-    enum-told-8
-    slice-aggregate-put-8
-    put-requires-8
-    enum-told-9
-    slice-aggregate-put-9
-    put-requires-9
-    enum-told-10
-    slice-aggregate-put-10
-    put-requires-10
     same-length
-    returns
-    same-length-2
-    returns-2
-    same-length-3
-    returns-3
-    same-length-4
-    returns-4
-    same-length-5
-    returns-5
-    same-length-6
-    returns-6
-    same-length-7
-    returns-7
-    same-length-8
-    returns-8
-    same-length-9
-    returns-9
-    same-length-10
-    returns-10)
+    returns)

@@ -15,20 +15,20 @@ use borrow.Author.Needs.{needs}
 use Rattle.console.proofs.input.end_line.Statement.{statement}
 use Rattle.console.proofs.input.end_line.Tie as tie
 
-line : (c : tie.After-line-length) → take (c .line-length .result) (now (c .before .before .before .before .before .args .line)) ≡ withoutReturn (take (c .before .before .before .before .before .args .s .kept) (now (c .before .before .before .before .before .args .line)))
-line c = line-kept (now (c .before .before .before .before .before .args .line)) (c .before .before .before .before .before .args .s .kept) (c .line-length .result) (c .line-length .ensures)
+line : (c : tie.After-line-length) → take (c .line-length .result) (now (c .before .before .before .before .args .line)) ≡ withoutReturn (take (c .before .before .before .before .args .s .kept) (now (c .before .before .before .before .args .line)))
+line c = line-kept (now (c .before .before .before .before .args .line)) (c .before .before .before .before .args .s .kept) (c .line-length .result) (c .line-length .ensures)
 
-within : (c : tie.After-line-length) → c .line-length .result ≤ length (now (c .before .before .before .before .before .args .line))
-within c = omega (arith, c .line-length .ensures, return-within (take (c .before .before .before .before .before .args .s .kept) (now (c .before .before .before .before .before .args .line))), length-take-le (c .before .before .before .before .before .args .s .kept) (now (c .before .before .before .before .before .args .line)) (c .before .before .before .before .before .pre .kept), c .before .before .before .before .before .pre .kept)
+within : (c : tie.After-line-length) → c .line-length .result ≤ length (now (c .before .before .before .before .args .line))
+within c = omega (arith, c .line-length .ensures, return-within (take (c .before .before .before .before .args .s .kept) (now (c .before .before .before .before .args .line))), length-take-le (c .before .before .before .before .args .s .kept) (now (c .before .before .before .before .args .line)) (c .before .before .before .before .pre .kept), c .before .before .before .before .pre .kept)
 
-quiet : (c : tie.After-is-silent) → c .is-silent .result ≡ silent (withoutReturn (take (c .before .before .before .before .before .before .before .args .s .kept) (now (c .before .before .before .before .before .before .before .args .line))))
+quiet : (c : tie.After-is-silent) → c .is-silent .result ≡ silent (withoutReturn (take (c .before .before .before .before .before .before .args .s .kept) (now (c .before .before .before .before .before .before .args .line))))
 quiet c = c .is-silent .ensures ∙ ap silent (line (c .before .before))
 
-turn : (c : tie.After-take-line) → c .take-line .result ≡ lineTurn (c .before .before .before .before .before .before .before .before .before .before .before .before .args .s .«module») (withoutReturn (take (c .before .before .before .before .before .before .before .before .before .before .before .before .args .s .kept) (now (c .before .before .before .before .before .before .before .before .before .before .before .before .args .line))))
-turn c = rw (c .before .before .before .before .before .before .before .before .before .before .before .before .pre .v-room, c .before .before .before .before .before .before .before .before .before .before .before .before .pre .i-room, line (c .before .before .before .before .before .before .before)) at (c .take-line .ensures)
+turn : (c : tie.After-take-line) → c .take-line .result ≡ lineTurn (c .before .before .before .before .before .before .before .before .before .before .before .args .s .«module») (withoutReturn (take (c .before .before .before .before .before .before .before .before .before .before .before .args .s .kept) (now (c .before .before .before .before .before .before .before .before .before .before .before .args .line))))
+turn c = rw (c .before .before .before .before .before .before .before .before .before .before .before .pre .v-room, c .before .before .before .before .before .before .before .before .before .before .before .pre .i-room, line (c .before .before .before .before .before .before .before)) at (c .take-line .ensures)
 
 slice-aggregate-line-length : tie.Need-slice-aggregate-line-length
-slice-aggregate-line-length c = sym (length-take-le _ _ (c .before .before .before .before .pre .kept))
+slice-aggregate-line-length c = sym (length-take-le _ _ (c .before .before .before .pre .kept))
 
 line-length-requires : tie.Need-line-length-requires
 line-length-requires c κs = search needs
@@ -41,8 +41,8 @@ is-silent-requires c κs = search needs
 
 returns : tie.Need-returns
 returns c =
-    let s = c .before .before .before .before .before .before .before .before in
-    (sym (ends-silent (talkOf (s .args .s) (now (c .before .before .before .before .before .before .before .before .args .line)) (now (s .args .out))) (sym (quiet (c .before)) ∙ c .if1 .taken)), (refl, omega arith))
+    let s = c .before .before .before .before .before .before .before in
+    (sym (ends-silent (talkOf (s .args .s) (now (c .before .before .before .before .before .before .before .args .line)) (now (s .args .out))) (sym (quiet (c .before)) ∙ c .if1 .taken)), (refl, omega arith))
 
 slice-aggregate-take-line : tie.Need-slice-aggregate-take-line
 slice-aggregate-take-line c = sym (length-take-le _ _ (within (c .before .before .before .before)))
@@ -51,7 +51,7 @@ take-line-requires : tie.Need-take-line-requires
 take-line-requires c κs = search needs
 
 put-answer-requires : tie.Need-put-answer-requires
-put-answer-requires c κs = omega (arith, c .before .before .before .before .before .before .before .before .before .before .before .before .before .before .before .before .pre .used)
+put-answer-requires c κs = omega (arith, c .before .before .before .before .before .before .before .before .before .before .before .before .before .before .pre .used)
 
 same-length : tie.Need-same-length
 same-length c = search needs
@@ -64,12 +64,12 @@ same-length-3 c = search needs
 
 returns-2 : tie.Need-returns-2
 returns-2 c =
-    let s = c .before .before .before .before .before .before .before .before .before .before .before .before .before .before .before .before .before .before .before in
+    let s = c .before .before .before .before .before .before .before .before .before .before .before .before .before .before .before .before .before .before in
     let l = c .before .before .before .before .before .before .before in
     let out = now (s .args .out) in
-    let p = c .before .before .put-answer .ensures in
+    let p = c .before .before .before .put-answer .ensures in
     let z = p .0 ∙ ap (λ (u : Turn). take (s .args .s .used) out ++ answerText u) (turn l) in (
-      (λ j. record { state = turn l j .after; kept = take 0 (now (c .before .before .before .before .before .before .before .before .before .before .before .before .before .before .before .before .before .before .before .args .line)); said = z j }) ∙ sym (ends-answered (talkOf (s .args .s) (now (c .before .before .before .before .before .before .before .before .before .before .before .before .before .before .before .before .before .before .before .args .line)) out) (sym (quiet (c .before .before .before .before .before .before .before .before .before .before .before .before)) ∙ c .before .before .before .before .before .before .before .before .before .before .before .if1 .left)),
+      (λ j. record { state = turn l j .after; kept = take 0 (now (c .before .before .before .before .before .before .before .before .before .before .before .before .before .before .before .before .before .before .args .line)); said = z j }) ∙ sym (ends-answered (talkOf (s .args .s) (now (c .before .before .before .before .before .before .before .before .before .before .before .before .before .before .before .before .before .before .args .line)) out) (sym (quiet (c .before .before .before .before .before .before .before .before .before .before .before .before)) ∙ c .before .before .before .before .before .before .before .before .before .before .before .if1 .left)),
       (refl, p .1),
     )
 

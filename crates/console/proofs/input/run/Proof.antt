@@ -2,18 +2,18 @@
 use mathlib.Core.Path.{_≡_, refl, ap, _∙_}
 use native.Mathlib.Omega.{arith}
 use lib.ListN.{length}
-use Rattle.console.specs.declared.input.Session.{Session}
+use Rattle.console.specs.declared.input.More.{More}
 use Rattle.console.specs.Session.{Ready}
 use Rattle.console.proofs.input.run.Statement.{statement}
 use Rattle.console.proofs.input.run.Tie as tie
 
 abbrev Inv-loop : tie.InvT-loop
-Inv-loop chunk₀ line₀ v₀ i₀ out₀ s₀ turns₀ chunk line v i out s turns =
-    Ready s line out v i (length chunk) × (length chunk ≡ length chunk₀) × (length line ≡ length line₀) × (length v ≡ length v₀) × (length i ≡ length i₀)
+Inv-loop chunk₀ line₀ v₀ i₀ out₀ m₀ turns₀ chunk line v i out m turns =
+    Ready (m .session) line out v i (length chunk) × (length chunk ≡ length chunk₀) × (length line ≡ length line₀) × (length v ≡ length v₀) × (length i ≡ length i₀)
     × (length out ≡ length out₀)
 
 abbrev μ-loop : tie.MeasureT-loop
-μ-loop chunk₀ line₀ v₀ i₀ out₀ s₀ turns₀ chunk line v i out s turns = turns
+μ-loop chunk₀ line₀ v₀ i₀ out₀ m₀ turns₀ chunk line v i out m turns = turns
 
 begun-requires : tie.Need-begun-requires Inv-loop μ-loop
 begun-requires c κs = tt
@@ -23,8 +23,8 @@ loop-holds c =
     let r = c .before .before .before .before .pre in
     let e = c .begun .ensures in (
       record {
-        kept = omega (arith, ap (λ (s : Session). s .kept) e);
-        used = omega (arith, ap (λ (s : Session). s .used) e, r .chunk-room, r .out-room);
+        kept = omega (arith, ap (λ (m : More). m .session .kept) e);
+        used = omega (arith, ap (λ (m : More). m .session .used) e, r .chunk-room, r .out-room);
         line-room = r .line-room;
         v-room = r .v-room;
         i-room = r .i-room;
@@ -47,9 +47,9 @@ loop-less c = omega arith
 
 loop-again : tie.Need-loop-again Inv-loop μ-loop
 loop-again c =
-    let d = c .before .before .before .before .before .before .before .before .before .before .read-some in
+    let d = c .before .before .before .before .before .before .before .before .before .read-some in
     let k = d .kept .1 in
-    let i = c .before .before .before .before .before .before .before .before .before .before .before .before .before .before .before .before .before .loop .inv in
+    let i = c .before .before .before .before .before .before .before .before .before .before .before .before .before .before .before .before .loop .inv in
     (d .ensures, k .0 ∙ i .1, k .1 .0 ∙ i .2, k .1 .1 .0 ∙ i .3, k .1 .1 .1 .0 ∙ i .4, k .1 .1 .1 .1 .0 ∙ i .5)
 
 loop-less-2 : tie.Need-loop-less-2 Inv-loop μ-loop
@@ -57,13 +57,13 @@ loop-less-2 c = omega arith
 
 loop-again-2 : tie.Need-loop-again-2 Inv-loop μ-loop
 loop-again-2 c =
-    let d = c .before .before .before .before .before .before .before .before .before .before .read-some in
+    let d = c .before .before .before .before .before .before .before .before .before .read-some in
     let k = d .kept .1 in
-    let i = c .before .before .before .before .before .before .before .before .before .before .before .before .before .before .before .before .before .loop .inv in
+    let i = c .before .before .before .before .before .before .before .before .before .before .before .before .before .before .before .before .loop .inv in
     (d .ensures, k .0 ∙ i .1, k .1 .0 ∙ i .2, k .1 .1 .0 ∙ i .3, k .1 .1 .1 .0 ∙ i .4, k .1 .1 .1 .1 .0 ∙ i .5)
 
-end-line-requires : tie.Need-end-line-requires Inv-loop μ-loop
-end-line-requires c κs =
+end-input-requires : tie.Need-end-input-requires Inv-loop μ-loop
+end-input-requires c κs =
     let i = c .before .before .before .before .before .loop .inv in
     let r = i .0 in
     record {
@@ -74,26 +74,20 @@ end-line-requires c κs =
       i-room = r .i-room;
     }
 
-write-out-requires : tie.Need-write-out-requires Inv-loop μ-loop
-write-out-requires c κs =
-    let e = c .before .before .before .before .before .end-line in
-    let i = c .before .before .before .before .before .before .before .before .before .before .before .loop .inv in
-    omega (arith, e .ensures .1 .1, i .0 .used, i .1, c .before .before .before .before .before .before .before .before .before .before .before .before .before .before .before .before .pre .chunk-room, e .kept .1 .1 .1 .1 .0)
-
 same-length : tie.Need-same-length Inv-loop μ-loop
-same-length c = c .before .before .before .before .before .before .before .before .before .before .before .before .loop .inv .1
+same-length c = c .before .before .before .before .before .before .before .before .before .before .loop .inv .1
 
 same-length-2 : tie.Need-same-length-2 Inv-loop μ-loop
-same-length-2 c = c .before .before .before .before .before .before .before .before .before .before .before .before .loop .inv .2
+same-length-2 c = c .before .before .before .before .before .before .before .before .before .before .loop .inv .2
 
 same-length-3 : tie.Need-same-length-3 Inv-loop μ-loop
-same-length-3 c = c .before .before .before .before .before .before .end-line .kept .1 .1 .0 ∙ c .before .before .before .before .before .before .before .before .before .before .before .before .loop .inv .3
+same-length-3 c = c .before .before .before .before .end-input .kept .1 .1 .0 ∙ c .before .before .before .before .before .before .before .before .before .before .loop .inv .3
 
 same-length-4 : tie.Need-same-length-4 Inv-loop μ-loop
-same-length-4 c = c .before .before .before .before .before .before .end-line .kept .1 .1 .1 .0 ∙ c .before .before .before .before .before .before .before .before .before .before .before .before .loop .inv .4
+same-length-4 c = c .before .before .before .before .end-input .kept .1 .1 .1 .0 ∙ c .before .before .before .before .before .before .before .before .before .before .loop .inv .4
 
 same-length-5 : tie.Need-same-length-5 Inv-loop μ-loop
-same-length-5 c = c .before .before .before .before .before .before .end-line .kept .1 .1 .1 .1 .0 ∙ c .before .before .before .before .before .before .before .before .before .before .before .before .loop .inv .5
+same-length-5 c = c .before .before .before .before .end-input .kept .1 .1 .1 .1 .0 ∙ c .before .before .before .before .before .before .before .before .before .before .loop .inv .5
 
 returns : tie.Need-returns Inv-loop μ-loop
 returns c = tt
@@ -112,8 +106,7 @@ run-spec =
     loop-again
     loop-less-2
     loop-again-2
-    end-line-requires
-    write-out-requires
+    end-input-requires
     same-length
     same-length-2
     same-length-3

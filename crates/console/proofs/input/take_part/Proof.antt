@@ -13,12 +13,12 @@ use Rattle.console.proofs.input.take_part.Statement.{statement}
 use Rattle.console.proofs.input.take_part.Tie as tie
 
 abbrev Inv-loop : tie.InvT-loop
-Inv-loop part line₀ v₀ i₀ out₀ s₀ at₀ line v i out s at =
+Inv-loop s₀ part line₀ v₀ i₀ out₀ at₀ s line v i out at =
     Ready s line out v i (length part - at) × (at ≤ length part) × (talked (talkOf s line out) (drop at part) ≡ talked (talkOf s₀ line₀ out₀) part)
     × (length line ≡ length line₀) × (length v ≡ length v₀) × (length i ≡ length i₀) × (length out ≡ length out₀)
 
 abbrev μ-loop : tie.MeasureT-loop
-μ-loop part line₀ v₀ i₀ out₀ s₀ at₀ line v i out s at = length part - at
+μ-loop s₀ part line₀ v₀ i₀ out₀ at₀ s line v i out at = length part - at
 
 loop-holds : tie.Need-loop-holds Inv-loop μ-loop
 loop-holds c =

@@ -6,7 +6,7 @@ use Rattle.console.proofs.input.write_out.Statement.{statement}
 use Rattle.console.proofs.input.write_out.Tie as tie
 
 slice-aggregate-print : tie.Need-slice-aggregate-print
-slice-aggregate-print c = sym (length-take-le _ _ (c .before .before .before .pre))
+slice-aggregate-print c = sym (length-take-le _ _ (c .before .before .pre))
 
 print-requires : tie.Need-print-requires
 print-requires c κs = search needs

@@ -1,7 +1,11 @@
 -- `held` says what a hold answered.
+use mir.Facts.{toZ-ofZ}
 use borrow.Author.Needs.{needs}
 use Rattle.console.proofs.turns.held.Statement.{statement}
 use Rattle.console.proofs.turns.held.Tie as tie
+
+hold-requires : tie.Need-hold-requires
+hold-requires c κs = search needs
 
 said-of-hold-requires : tie.Need-said-of-hold-requires
 said-of-hold-requires c κs = search needs
@@ -10,12 +14,14 @@ none-requires : tie.Need-none-requires
 none-requires c κs = search needs
 
 returns : tie.Need-returns
-returns c = simp (c .none .ensures, c .before .said-of-hold .ensures)
+returns c =
+    simp (c .none .ensures, c .before .said-of-hold .ensures, rw (toZ-ofZ (c .before .before .before .before .before .fits .port)) at (c .before .before .before .before .hold .ensures))
 
 pub held-spec : {M : Type 1} → statement M
 held-spec =
     tie.close
     (tie.spec
+    hold-requires
     said-of-hold-requires
     none-requires
     returns)

@@ -3,12 +3,12 @@ use Prim.Native.Nat.{ℕ, _≤_, _-_}
 use mathlib.Core.Path.{_≡_, sym, ap, _∙_}
 use lib.ListN.{length, take, drop}
 use lib.Seq.{length-take-le}
-use Rattle.console.specs.declared.words.Word.the-variants.{Start, Open, Write, Commit, Drop, Hold, Read, Block, Cards, Help, Other}
+use Rattle.console.specs.declared.words.Word.the-variants.{Open, Block, Other}
 use Rattle.console.specs.Texts.{lengthTo}
 use Rattle.console.specs.Words.{wordOf}
 use Rattle.console.specs.Turns.{withItems, withText, withSamples}
 use Rattle.console.proofs.TextLaws.{rest-of, to-within}
-use Rattle.console.proofs.TurnLaws.{long-line, line-with}
+use Rattle.console.proofs.TurnLaws.{with-items, long-line, line-with}
 use borrow.Author.Needs.{needs}
 use Rattle.console.proofs.turns.take_line.Statement.{statement}
 use Rattle.console.proofs.turns.take_line.Tie as tie
@@ -65,53 +65,8 @@ enum-told-3 c = search needs
 unread-requires-2 : tie.Need-unread-requires-2
 unread-requires-2 c κs = search needs
 
-enum-told-4 : tie.Need-enum-told-4
-enum-told-4 c = search needs
-
 with-items-requires : tie.Need-with-items-requires
 with-items-requires c κs = search needs
-
-enum-told-5 : tie.Need-enum-told-5
-enum-told-5 c = search needs
-
-with-items-requires-2 : tie.Need-with-items-requires-2
-with-items-requires-2 c κs = search needs
-
-enum-told-6 : tie.Need-enum-told-6
-enum-told-6 c = search needs
-
-with-items-requires-3 : tie.Need-with-items-requires-3
-with-items-requires-3 c κs = search needs
-
-enum-told-7 : tie.Need-enum-told-7
-enum-told-7 c = search needs
-
-with-items-requires-4 : tie.Need-with-items-requires-4
-with-items-requires-4 c κs = search needs
-
-enum-told-8 : tie.Need-enum-told-8
-enum-told-8 c = search needs
-
-with-items-requires-5 : tie.Need-with-items-requires-5
-with-items-requires-5 c κs = search needs
-
-enum-told-9 : tie.Need-enum-told-9
-enum-told-9 c = search needs
-
-with-items-requires-6 : tie.Need-with-items-requires-6
-with-items-requires-6 c κs = search needs
-
-enum-told-10 : tie.Need-enum-told-10
-enum-told-10 c = search needs
-
-with-items-requires-7 : tie.Need-with-items-requires-7
-with-items-requires-7 c κs = search needs
-
-enum-told-11 : tie.Need-enum-told-11
-enum-told-11 c = search needs
-
-with-items-requires-8 : tie.Need-with-items-requires-8
-with-items-requires-8 c κs = search needs
 
 returns-2 : tie.Need-returns-2
 returns-2 c = c .with-text .ensures ∙ ap (withText _) (behind (c .before .before .before)) ∙ line-with _ _ _ _ Open (word (c .before .before .before .before) ∙ c .before .enum-told .given .1) (c .before .before .before .before .before .before .before .if1 .left)
@@ -129,28 +84,12 @@ returns-4 : tie.Need-returns-4
 returns-4 c = c .unread2 .ensures ∙ line-with _ _ _ _ Other (word (c .before .before .before .before) ∙ c .before .enum-told3 .given .1) (c .before .before .before .before .before .before .before .if1 .left)
 
 returns-5 : tie.Need-returns-5
-returns-5 c = c .with-items .ensures ∙ rw (c .before .enum-told4 .given .1) (ap (withItems _ Start) (behind (c .before .before .before)) ∙ line-with _ _ _ _ Start (word (c .before .before .before .before) ∙ c .before .enum-told4 .given .1) (c .before .before .before .before .before .before .before .if1 .left))
-
-returns-6 : tie.Need-returns-6
-returns-6 c = c .with-items2 .ensures ∙ rw (c .before .enum-told5 .given .1) (ap (withItems _ Write) (behind (c .before .before .before)) ∙ line-with _ _ _ _ Write (word (c .before .before .before .before) ∙ c .before .enum-told5 .given .1) (c .before .before .before .before .before .before .before .if1 .left))
-
-returns-7 : tie.Need-returns-7
-returns-7 c = c .with-items3 .ensures ∙ rw (c .before .enum-told6 .given .1) (ap (withItems _ Commit) (behind (c .before .before .before)) ∙ line-with _ _ _ _ Commit (word (c .before .before .before .before) ∙ c .before .enum-told6 .given .1) (c .before .before .before .before .before .before .before .if1 .left))
-
-returns-8 : tie.Need-returns-8
-returns-8 c = c .with-items4 .ensures ∙ rw (c .before .enum-told7 .given .1) (ap (withItems _ Drop) (behind (c .before .before .before)) ∙ line-with _ _ _ _ Drop (word (c .before .before .before .before) ∙ c .before .enum-told7 .given .1) (c .before .before .before .before .before .before .before .if1 .left))
-
-returns-9 : tie.Need-returns-9
-returns-9 c = c .with-items5 .ensures ∙ rw (c .before .enum-told8 .given .1) (ap (withItems _ Hold) (behind (c .before .before .before)) ∙ line-with _ _ _ _ Hold (word (c .before .before .before .before) ∙ c .before .enum-told8 .given .1) (c .before .before .before .before .before .before .before .if1 .left))
-
-returns-10 : tie.Need-returns-10
-returns-10 c = c .with-items6 .ensures ∙ rw (c .before .enum-told9 .given .1) (ap (withItems _ Read) (behind (c .before .before .before)) ∙ line-with _ _ _ _ Read (word (c .before .before .before .before) ∙ c .before .enum-told9 .given .1) (c .before .before .before .before .before .before .before .if1 .left))
-
-returns-11 : tie.Need-returns-11
-returns-11 c = c .with-items7 .ensures ∙ rw (c .before .enum-told10 .given .1) (ap (withItems _ Cards) (behind (c .before .before .before)) ∙ line-with _ _ _ _ Cards (word (c .before .before .before .before) ∙ c .before .enum-told10 .given .1) (c .before .before .before .before .before .before .before .if1 .left))
-
-returns-12 : tie.Need-returns-12
-returns-12 c = c .with-items8 .ensures ∙ rw (c .before .enum-told11 .given .1) (ap (withItems _ Help) (behind (c .before .before .before)) ∙ line-with _ _ _ _ Help (word (c .before .before .before .before) ∙ c .before .enum-told11 .given .1) (c .before .before .before .before .before .before .before .if1 .left))
+returns-5 c =
+    let w = c .before .before .before in
+    c .with-items .ensures
+    ∙ ap (withItems _ (w .first-word .result)) (behind (c .before .before))
+    ∙ with-items _ _ _ (w .first-word .result) _ (c .before .match .keys4)
+    ∙ line-with _ _ _ _ (w .first-word .result) (word w) (c .before .before .before .before .before .before .if1 .left)
 
 pub take-line-spec : {M : Type 1} → statement M
 take-line-spec =
@@ -170,32 +109,10 @@ take-line-spec =
     with-samples-requires
     enum-told-3
     unread-requires-2
-    enum-told-4
     with-items-requires
-    enum-told-5
-    with-items-requires-2
-    enum-told-6
-    with-items-requires-3
-    enum-told-7
-    with-items-requires-4
-    enum-told-8
-    with-items-requires-5
-    enum-told-9
-    with-items-requires-6
-    enum-told-10
-    with-items-requires-7
-    enum-told-11
-    with-items-requires-8
     returns-2
     same-length
     same-length-2
     returns-3
     returns-4
-    returns-5
-    returns-6
-    returns-7
-    returns-8
-    returns-9
-    returns-10
-    returns-11
-    returns-12)
+    returns-5)

@@ -1,5 +1,6 @@
 -- `with_worths` is the step that a word and the worths of its items make.
-use Rattle.console.proofs.TurnLaws.{as-read}
+use mathlib.Core.Path.{_∙_}
+use Rattle.console.proofs.TurnLaws.{as-read, no-items}
 use borrow.Author.Needs.{needs}
 use Rattle.console.proofs.turns.with_worths.Statement.{statement}
 use Rattle.console.proofs.turns.with_worths.Tie as tie
@@ -55,11 +56,8 @@ stepped-requires-3 c κs = search needs
 enum-told-5 : tie.Need-enum-told-5
 enum-told-5 c = search needs
 
-array-copy-out-hold : tie.Need-array-copy-out-hold
-array-copy-out-hold c = search needs
-
-hold-requires : tie.Need-hold-requires
-hold-requires c κs = search needs
+array-copy-out-held : tie.Need-array-copy-out-held
+array-copy-out-held c = search needs
 
 held-requires : tie.Need-held-requires
 held-requires c κs = search needs
@@ -67,17 +65,11 @@ held-requires c κs = search needs
 enum-told-6 : tie.Need-enum-told-6
 enum-told-6 c = search needs
 
-array-copy-out-read : tie.Need-array-copy-out-read
-array-copy-out-read c = search needs
+array-copy-out-looked : tie.Need-array-copy-out-looked
+array-copy-out-looked c = search needs
 
-array-copy-out-byte-addr : tie.Need-array-copy-out-byte-addr
-array-copy-out-byte-addr c = search needs
-
-byte-addr-requires : tie.Need-byte-addr-requires
-byte-addr-requires c κs = search needs
-
-read-requires : tie.Need-read-requires
-read-requires c κs = search needs
+array-copy-out-looked-2 : tie.Need-array-copy-out-looked-2
+array-copy-out-looked-2 c = search needs
 
 looked-requires : tie.Need-looked-requires
 looked-requires c κs = search needs
@@ -94,23 +86,8 @@ enum-told-8 c = search needs
 plain-requires : tie.Need-plain-requires
 plain-requires c κs = search needs
 
-enum-told-9 : tie.Need-enum-told-9
-enum-told-9 c = search needs
-
 unread-requires : tie.Need-unread-requires
 unread-requires c κs = search needs
-
-enum-told-10 : tie.Need-enum-told-10
-enum-told-10 c = search needs
-
-unread-requires-2 : tie.Need-unread-requires-2
-unread-requires-2 c κs = search needs
-
-enum-told-11 : tie.Need-enum-told-11
-enum-told-11 c = search needs
-
-unread-requires-3 : tie.Need-unread-requires-3
-unread-requires-3 c κs = search needs
 
 returns : tie.Need-returns
 returns c = simp (c .before .enum-told .given .1, c .start .ensures)
@@ -132,13 +109,13 @@ returns-4 c =
 
 returns-5 : tie.Need-returns-5
 returns-5 c =
-    let x = c .before .before .before .before .before .args .t3 in
-    simp (c .before .before .before .enum-told5 .given .1, c .held .ensures, c .before .hold .ensures, as-read x 0 (c .before .before .hold-arg .given))
+    let x = c .before .before .before .before .args .t3 in
+    simp (c .before .before .enum-told5 .given .1, c .held .ensures, as-read x 0 (c .before .held-arg .given))
 
 returns-6 : tie.Need-returns-6
 returns-6 c =
-    let x = c .before .before .before .before .before .before .before .args .t3 in
-    simp (c .before .before .before .before .before .enum-told6 .given .1, c .looked .ensures, c .before .read .ensures, c .before .before .byte-addr .ensures, as-read x 0 (c .before .before .before .before .read-arg .given), as-read x 1 (c .before .before .before .byte-addr-arg .given))
+    let x = c .before .before .before .before .before .args .t3 in
+    simp (c .before .before .before .enum-told6 .given .1, c .looked .ensures, as-read x 0 (c .before .before .looked-arg .given), as-read x 1 (c .before .looked-arg2 .given))
 
 returns-7 : tie.Need-returns-7
 returns-7 c = simp (c .before .enum-told7 .given .1, c .shown .ensures)
@@ -147,13 +124,9 @@ returns-8 : tie.Need-returns-8
 returns-8 c = simp (c .before .enum-told8 .given .1, c .plain .ensures)
 
 returns-9 : tie.Need-returns-9
-returns-9 c = simp (c .before .enum-told9 .given .1, c .unread .ensures)
-
-returns-10 : tie.Need-returns-10
-returns-10 c = simp (c .before .enum-told10 .given .1, c .unread2 .ensures)
-
-returns-11 : tie.Need-returns-11
-returns-11 c = simp (c .before .enum-told11 .given .1, c .unread3 .ensures)
+returns-9 c =
+    let a = c .before .before .args in
+    c .unread .ensures ∙ no-items (a .m) (a .w) (a .t3) (c .before .match .keys9)
 
 pub with-worths-spec : {M : Type 1} → statement M
 with-worths-spec =
@@ -176,25 +149,17 @@ with-worths-spec =
     drop-requires
     stepped-requires-3
     enum-told-5
-    array-copy-out-hold
-    hold-requires
+    array-copy-out-held
     held-requires
     enum-told-6
-    array-copy-out-read
-    array-copy-out-byte-addr
-    byte-addr-requires
-    read-requires
+    array-copy-out-looked
+    array-copy-out-looked-2
     looked-requires
     enum-told-7
     shown-requires
     enum-told-8
     plain-requires
-    enum-told-9
     unread-requires
-    enum-told-10
-    unread-requires-2
-    enum-told-11
-    unread-requires-3
     returns
     returns-2
     returns-3
@@ -203,6 +168,4 @@ with-worths-spec =
     returns-6
     returns-7
     returns-8
-    returns-9
-    returns-10
-    returns-11)
+    returns-9)
