@@ -1,13 +1,16 @@
 -- The 24-bit range: a clipped number is in it, a number in it is its own clip, and what clipping does to both signs.
-use mathlib.Core.Path.{_≡_, refl}
-use mathlib.Core.Bool.{Bool, true, false, cond, _&&_}
+use mathlib.Core.Path.{_≡_, refl, _∙_}
+use mathlib.Core.Bool.{Bool, true, false, not, cond, _&&_, _||_, false≢true}
+use mathlib.Core.Logic.{inl, inr}
 use Prim.Native.Nat.{ℕ, _<_, min}
 use native.Mathlib.Omega.{arith}
 use lib.IntN.{ℤ, pos, negsuc}
-use lib.Signed.{mag, ltZ, leZ}
+use lib.Dec.{leb, ltb}
+use lib.Signed.{mag, ltZ, leZ, clashℤ}
+use borrow.Author.Tests.{leb-true, leb-false, le-ltb, lt-ltb, not-false}
 use mir.Syntax.{w32}
 use mir.Val.{SFits}
-use Rattle.range.specs.Range.{low, high, in24, heldWithin, clipped, capped, InRange}
+use Rattle.range.specs.Range.{low, high, in24, outside24, heldWithin, clipped, capped, InRange, Outside}
 use Rattle.number.proofs.Signed.{up, dn, norm, signs, cond-is, ltZ-true, ltZ-false, le-in, le-out}
 use Rattle.number.proofs.Fits.{Size}
 
@@ -60,8 +63,41 @@ in24-in z e = go (leZ low z) (leZ z high) refl refl e
   where
     go : (a b : Bool) → leZ low z ≡ a → leZ z high ≡ b → (a && b) ≡ true → InRange z
     go true true p q e = record { above = record { le = rw p tt }; below = record { le = rw q tt } }
-    go true false p q e = absurd (mathlib.Core.Bool.false≢true e)
-    go false b p q e = absurd (mathlib.Core.Bool.false≢true e)
+    go true false p q e = absurd (false≢true e)
+    go false b p q e = absurd (false≢true e)
+
+-- and so does the other: a number outside is beyond an end
+flip : (a b : ℕ) → ltb b a ≡ not (leb a b)
+flip a b = by (leb a b) refl
+  where
+    by : (t : Bool) → leb a b ≡ t → ltb b a ≡ not t
+    by true e = le-ltb b a (leb-true a b e)
+    by false e = lt-ltb b a (leb-false a b e)
+
+pub outside-by : (z : ℤ) → ltZ z low || ltZ high z ≡ outside24 z
+unfolding outside24 in24
+outside-by (pos n) = flip n 8388607
+outside-by (negsuc n) = go (leb n 8388607) refl
+  where
+    go : (t : Bool) → leb n 8388607 ≡ t → ltb 8388607 n || false ≡ not (leb n 8388607 && true)
+    go true e = rw (flip n 8388607, e)
+    go false e = rw (flip n 8388607, e)
+
+pub outside-yes : (z : ℤ) → outside24 z ≡ true → Outside z
+outside-yes z e = go (ltZ z low) (ltZ high z) refl refl (outside-by z ∙ e)
+  where
+    go : (a b : Bool) → ltZ z low ≡ a → ltZ high z ≡ b → a || b ≡ true → Outside z
+    go true b p q e = inl (record { lt = rw p tt })
+    go false true p q e = inr (record { lt = rw q tt })
+    go false false p q e = absurd (false≢true e)
+
+pub outside-no : (z : ℤ) → outside24 z ≡ false → InRange z
+unfolding outside24
+outside-no z e = in24-in z (not-false (in24 z) e)
+
+pub not-both : (z : ℤ) → InRange z → Outside z → ⊥
+not-both z h (inl l) = clashℤ l (h .above)
+not-both z h (inr l) = clashℤ l (h .below)
 
 pub in-fits : {z : ℤ} → InRange z → SFits w32 z
 in-fits {z} h = record { sfits = omega (arith, mag-in z h) }

@@ -1,8 +1,9 @@
 -- The 24-bit range, -8,388,608 to 8,388,607, and what it is to clip.
 use Prim.Native.Nat.{ℕ, min}
-use mathlib.Core.Bool.{Bool, cond, _&&_}
+use mathlib.Core.Bool.{Bool, not, cond, _&&_}
+use mathlib.Core.Logic.{_⊎_}
 use lib.IntN.{ℤ, pos, negsuc}
-use lib.Signed.{ltZ, leZ, _≤ℤ_}
+use lib.Signed.{ltZ, leZ, _≤ℤ_, _<ℤ_}
 
 -- -8,388,608: `negsuc n` is -(n + 1)
 abbrev pub low : ℤ
@@ -17,6 +18,10 @@ most = 8388607
 -- whether a number is in the range
 unfoldable pub in24 : ℤ → Bool
 in24 z = leZ low z && leZ z high
+
+-- whether it is outside
+unfoldable pub outside24 : ℤ → Bool
+outside24 z = not (in24 z)
 
 -- a number held within two ends: an end takes the place of a number beyond it
 unfoldable pub heldWithin : ℤ → ℤ → ℤ → ℤ
@@ -34,3 +39,7 @@ capped n = min n most
 pub record InRange (z : ℤ) : Type 0 where
   pub above : low ≤ℤ z
   pub below : z ≤ℤ high
+
+-- z is beyond an end of it
+abbrev pub Outside : ℤ → Type 0
+Outside z = (z <ℤ low) ⊎ (high <ℤ z)

@@ -12,11 +12,11 @@ use Rattle.number.specs.Rounding.{floorDiv}
 use Rattle.number.proofs.Signed.{up, dn, signs, neg-is, add-is, diff-is}
 use Rattle.number.proofs.Fits.{Size, size-of, size-nat, size-add, size-sub, size-mul, size-fits, ranges}
 use Rattle.range.proofs.Ranges.{clipped-mag}
-use Rattle.sample.specs.Sample.{corrected, mixed}
+use Rattle.sample.specs.Sample.{scaled, corrected, mixed}
 
 pub corrected-in : (raw offset gain : ℤ) → mag (corrected raw offset gain) < 8388608
 unfolding corrected
-corrected-in raw offset gain = clipped-mag (floorDiv ((raw -ℤ offset) *ℤ gain) 2097152)
+corrected-in raw offset gain = clipped-mag (scaled raw offset gain)
 
 times : (k : ℕ) (x : ℤ) → (up (pos k *ℤ x) ≡ k * up x) × (dn (pos k *ℤ x) ≡ k * dn x)
 times k (pos a) = omega arith

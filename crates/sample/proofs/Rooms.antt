@@ -1,6 +1,7 @@
 -- The sums of an interval have room: with one sample more they are those of one sample more, and never pass 64 bits.
 use Prim.Native.Nat.{ℕ, suc, _+_, _*_, _-_, _^_, _≤_, _<_}
 use mathlib.Core.Path.{_≡_}
+use mathlib.Core.Bool.{Bool, true, false}
 use native.Mathlib.Nat.{mul-le-mul}
 use native.Mathlib.Omega.{arith}
 use lib.IntN.{ℤ, natAbs, _+ℤ_, _*ℤ_}
@@ -11,15 +12,16 @@ use Rattle.number.proofs.Signed.{add-is, abs-is}
 use Rattle.number.proofs.Fits.{within, Size, size-mul}
 use Rattle.range.proofs.Ranges.{size24}
 use Rattle.sample.specs.declared.Flow.{Flow}
+use Rattle.sample.specs.declared.Clips.{Clips}
 use Rattle.sample.specs.declared.Sums.{Sums}
 use Rattle.number.specs.Sign.{squareOf}
-use Rattle.sample.specs.Sums.{Sample, joined, previous, summed, added, addedAll, emptied}
+use Rattle.sample.specs.Sums.{Sample, joined, oneIf, counted, previous, summed, added, addedAll, emptied}
 use Rattle.sample.specs.Fields.{field}
-use Rattle.sample.specs.Sample.{voltage, current, phased}
+use Rattle.sample.specs.Sample.{voltage, current, phased, voltageClipped, currentClipped}
 use Rattle.sample.proofs.Corrections.{corrected-in, mixed-in}
 use mathlib.Core.List.{List, [], _∷_}
 use lib.ListN.{length}
-use Rattle.sample.specs.Inside.{Flowing, Room, Spare, Phased}
+use Rattle.sample.specs.Inside.{Flowing, Few, Room, Spare, Phased}
 use Rattle.card.specs.declared.Card.{Card}
 
 -- squares and products of numbers of the range
@@ -45,22 +47,35 @@ pub flowing-more : (f : Flow) (v i : ℤ) (k : ℕ) → Flowing f k → mag v < 
 unfolding joined
 flowing-more f v i k h p q = record { ii = square-more (f .ii) i k q (h .ii); vi = vi-more (f .vi) v i k p q (h .vi) }
 
+pub one-most : (b : Bool) → oneIf b ≤ 1
+one-most true = omega arith
+one-most false = omega arith
+
+pub few-more : (c : Clips) (x y : Bool) (k : ℕ) → Few c k → Few (counted c x y) (k + 1)
+unfolding counted
+few-more c x y k h = record { v = omega (arith, h .v, one-most x); i = omega (arith, h .i, one-most y) }
+
 -- the sums with one sample more
-pub room-more : (s : Sums) (v i raw : ℤ) (k : ℕ) → Room s k → mag v < 8388608 → mag i < 8388608 → Room (summed s v i raw) (k + 1)
+pub room-more : (s : Sums) (v i : ℤ) (x y : Bool) (raw : ℤ) (k : ℕ) → Room s k → mag v < 8388608 → mag i < 8388608 → Room (summed s v i x y raw) (k + 1)
 unfolding summed
-room-more s v i raw k h p q = record {
+room-more s v i x y raw k h p q = record {
   vv = square-more (s .vv) v k p (h .vv);
   flow = flowing-more (s .flow) v i k (h .flow) p q;
+  clips = few-more (s .clips) x y k (h .clips);
 }
 
 pub room-less : (s : Sums) (j k : ℕ) → j ≤ k → Room s j → Room s k
-room-less s j k l h = record { vv = omega (arith, h .vv); flow = record { ii = omega (arith, h .flow .ii); vi = omega (arith, h .flow .vi) } }
+room-less s j k l h = record {
+  vv = omega (arith, h .vv);
+  flow = record { ii = omega (arith, h .flow .ii); vi = omega (arith, h .flow .vi) };
+  clips = record { v = omega (arith, h .clips .v); i = omega (arith, h .clips .i) };
+}
 
 pub spare-room : (s : Sums) (k : ℕ) → Spare s k → Room s 4096
 spare-room s k h = room-less s (h .had) 4096 (omega (arith, h .few)) (h .room)
 
-pub spare-more : (s : Sums) (v i raw : ℤ) (k : ℕ) → Spare s (suc k) → mag v < 8388608 → mag i < 8388608 → Spare (summed s v i raw) k
-spare-more s v i raw k h p q = record { had = h .had + 1; few = omega (arith, h .few); room = room-more s v i raw (h .had) (h .room) p q }
+pub spare-more : (s : Sums) (v i : ℤ) (x y : Bool) (raw : ℤ) (k : ℕ) → Spare s (suc k) → mag v < 8388608 → mag i < 8388608 → Spare (summed s v i x y raw) k
+spare-more s v i x y raw k h p q = record { had = h .had + 1; few = omega (arith, h .few); room = room-more s v i x y raw (h .had) (h .room) p q }
 
 pub spare-at : (s : Sums) (j k : ℕ) → j ≡ k → Spare s j → Spare s k
 spare-at s j k e h = rw e at h
@@ -80,7 +95,9 @@ phased-in c h x y = mixed-in (natAbs (field c 5)) (current c x) (current c y) (o
 
 one-room : (c : Card) → Phased c → (s : Sums) (x : Sample) (k : ℕ) → Room s k → Room (added c s (x .0) (x .1)) (k + 1)
 unfolding added
-one-room c h s x k r = room-more s (voltage c (x .0)) (phased c (x .1) (previous s (x .1))) (x .1) k r (voltage-in c (x .0)) (phased-in c h (x .1) (previous s (x .1)))
+one-room c h s x k r =
+    room-more s (voltage c (x .0)) (phased c (x .1) (previous s (x .1))) (voltageClipped c (x .0)) (currentClipped c (x .1)) (x .1) k r
+    (voltage-in c (x .0)) (phased-in c h (x .1) (previous s (x .1)))
 
 pub all-room : (c : Card) → Phased c → (xs : List Sample) (s : Sums) (k : ℕ) → Room s k → Room (addedAll c s xs) (k + length xs)
 unfolding addedAll
@@ -89,4 +106,8 @@ all-room c h (x ∷ xs) s k r = room-less (addedAll c (added c s (x .0) (x .1)) 
 
 pub empty-room : (s : Sums) → Room (emptied s) 0
 unfolding emptied
-empty-room s = record { vv = omega arith; flow = record { ii = omega arith; vi = omega arith } }
+empty-room s = record {
+  vv = omega arith;
+  flow = record { ii = omega arith; vi = omega arith };
+  clips = record { v = omega arith; i = omega arith };
+}

@@ -1,6 +1,7 @@
 -- The samples of two slices: one after another, and a part of them.
 use Prim.Native.Nat.{ℕ, zero, suc, _<_}
 use mathlib.Core.Path.{_≡_, refl, ap, _∙_}
+use mathlib.Core.Bool.{Bool}
 use mathlib.Core.List.{List, [], _∷_}
 use native.Mathlib.Nat.{le-of-suc-le-suc, not-suc-le-zero, suc-ne-zero}
 use native.Mathlib.Omega.{arith}
@@ -25,9 +26,9 @@ samples-at (v ∷ vs) (i ∷ is) zero h e = refl
 samples-at (v ∷ vs) (i ∷ is) (suc k) h e = samples-at vs is k (le-of-suc-le-suc h) (omega arith)
 
 -- the raw current that is kept is the previous one of the next sample
-pub previous-after : (s : Sums) (v i raw x : ℤ) → previous (summed s v i raw) x ≡ raw
+pub previous-after : (s : Sums) (v i : ℤ) (b d : Bool) (raw x : ℤ) → previous (summed s v i b d raw) x ≡ raw
 unfolding previous summed
-previous-after s v i raw x = refl
+previous-after s v i b d raw x = refl
 
 pub none-added : (c : Card) (s : Sums) (vs is : List ℤ) → length vs ≡ 0 → addedAll c s (samplesIn vs is) ≡ s
 unfolding addedAll samplesIn

@@ -46,14 +46,24 @@ phased-yes c h = phase-yes (field c 5) (h .low) (h .high)
 pub room-of : (n : ℕ) (s : Sums) → ofAtMost n s ≡ true → (n ≤ 4096) × Room s n
 unfolding ofAtMost
 room-of n s e =
-    let c3 : _ = both-of _ _ e in
+    let c5 : _ = both-of _ _ e in
+    let c4 : _ = both-of _ _ (c5 .0) in
+    let c3 : _ = both-of _ _ (c4 .0) in
     let c2 : _ = both-of _ _ (c3 .0) in
-    let c1 : _ = both-of _ _ (c2 .0) in
-    (leb-true _ _ (c1 .0), record { vv = leb-true _ _ (c1 .1); flow = record { ii = leb-true _ _ (c2 .1); vi = leb-true _ _ (c3 .1) } })
+    let c1 : _ = both-of _ _ (c2 .0) in (
+      leb-true _ _ (c1 .0),
+      record {
+        vv = leb-true _ _ (c1 .1);
+        flow = record { ii = leb-true _ _ (c2 .1); vi = leb-true _ _ (c3 .1) };
+        clips = record { v = leb-true _ _ (c4 .1); i = leb-true _ _ (c5 .1) };
+      },
+    )
 
 pub room-yes : (n : ℕ) (s : Sums) → n ≤ 4096 → Room s n → ofAtMost n s ≡ true
 unfolding ofAtMost
-room-yes n s l h = both-true (both-true (both-true (le-leb _ _ l) (le-leb _ _ (h .vv))) (le-leb _ _ (h .flow .ii))) (le-leb _ _ (h .flow .vi))
+room-yes n s l h =
+    let sums = both-true (both-true (both-true (le-leb _ _ l) (le-leb _ _ (h .vv))) (le-leb _ _ (h .flow .ii))) (le-leb _ _ (h .flow .vi)) in
+    both-true (both-true sums (le-leb _ _ (h .clips .v))) (le-leb _ _ (h .clips .i))
 
 -- ---- room for the samples of two slices
 -- the sum of both counts, tested without making it

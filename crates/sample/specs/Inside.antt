@@ -5,6 +5,7 @@ use lib.Signed.{nonNeg}
 use lib.Dec.{T}
 use Rattle.card.specs.declared.Card.{Card}
 use Rattle.sample.specs.declared.Flow.{Flow}
+use Rattle.sample.specs.declared.Clips.{Clips}
 use Rattle.sample.specs.declared.Sums.{Sums}
 use Rattle.sample.specs.Fields.{field}
 
@@ -13,9 +14,14 @@ pub record Flowing (f : Flow) (k : ℕ) : Type 0 where
   pub ii : f .ii ≤ k * 2 ^ 46
   pub vi : natAbs (f .vi) ≤ k * 2 ^ 46
 
+pub record Few (c : Clips) (k : ℕ) : Type 0 where
+  pub v : c .v ≤ k
+  pub i : c .i ≤ k
+
 pub record Room (s : Sums) (k : ℕ) : Type 0 where
   pub vv : s .vv ≤ k * 2 ^ 46
   pub flow : Flowing (s .flow) k
+  pub clips : Few (s .clips) k
 
 -- k samples more may be added
 pub record Spare (s : Sums) (k : ℕ) : Type 0 where

@@ -3,9 +3,10 @@ use Prim.Native.Nat.{ℕ}
 use mathlib.Core.Bool.{Bool, true, _&&_}
 use mathlib.Core.List.{List, [], _∷_}
 use lib.IntN.{ℤ, pos, _+ℤ_, _-ℤ_, _*ℤ_}
-use Rattle.range.specs.Range.{in24, clipped}
+use Rattle.range.specs.Range.{in24, outside24, clipped}
 use Rattle.number.specs.Rounding.{floorDiv}
 use Rattle.card.specs.declared.Card.{Card}
+use Rattle.sample.specs.declared.Corrected.{Corrected}
 use Rattle.sample.specs.Fields.{voffs, ioffs, vgain, igain, phase}
 
 -- every raw sample is in the 24-bit range
@@ -13,9 +14,21 @@ unfoldable pub every24 : List ℤ → Bool
 every24 [] = true
 every24 (z ∷ zs) = in24 z && every24 zs
 
--- (raw - offset) times gain, divided by 2^21 rounding down, clipped
+-- (raw - offset) times gain, divided by 2^21 rounding down: the value before clipping
+unfoldable pub scaled : ℤ → ℤ → ℤ → ℤ
+scaled raw offset gain = floorDiv ((raw -ℤ offset) *ℤ gain) 2097152
+
+-- the corrected value: clipped
 unfoldable pub corrected : ℤ → ℤ → ℤ → ℤ
-corrected raw offset gain = clipped (floorDiv ((raw -ℤ offset) *ℤ gain) 2097152)
+corrected raw offset gain = clipped (scaled raw offset gain)
+
+-- whether the value before clipping lay outside the 24-bit range (document 02, A2)
+unfoldable pub wasClipped : ℤ → ℤ → ℤ → Bool
+wasClipped raw offset gain = outside24 (scaled raw offset gain)
+
+-- to correct a sample gives both
+unfoldable pub correction : ℤ → ℤ → ℤ → Corrected
+correction raw offset gain = record { value = corrected raw offset gain; clipped = wasClipped raw offset gain }
 
 -- ((4,096 - PHASE) times this one + PHASE times the previous one) / 4,096, rounding down
 unfoldable pub mixed : ℕ → ℤ → ℤ → ℤ
@@ -28,6 +41,13 @@ voltage c raw = corrected raw (voffs c) (vgain c)
 -- the current, corrected but not yet mixed
 unfoldable pub current : Card → ℤ → ℤ
 current c raw = corrected raw (ioffs c) (igain c)
+
+-- whether the card clips a raw voltage, and a raw current; a mix of two corrected currents is never clipped
+unfoldable pub voltageClipped : Card → ℤ → Bool
+voltageClipped c raw = wasClipped raw (voffs c) (vgain c)
+
+unfoldable pub currentClipped : Card → ℤ → Bool
+currentClipped c raw = wasClipped raw (ioffs c) (igain c)
 
 -- the current as it is summed, corrected and mixed: the previous one is the previous raw sample corrected with the card now in force
 unfoldable pub phased : Card → ℤ → ℤ → ℤ

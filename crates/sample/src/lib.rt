@@ -1,15 +1,25 @@
 // Samples: what a card makes of a raw one, and what is kept of the running interval's.
 ghost use mathlib.Core.Path.{_≡_};
-ghost use Rattle.sample.specs.Sample.{corrected, mixed, every24};
+ghost use Rattle.sample.specs.Sample.{correction, mixed, every24};
 ghost use Rattle.sample.specs.Sums.{emptied, noSums, ofAtMost, phaseInRange};
 use card::Card;
 use card::names::PHASE;
 
+// A corrected sample, and whether its value before clipping lay outside the 24-bit range.
+pub struct Corrected {
+    pub value: i32,
+    pub clipped: bool,
+}
+
 // (raw - offset) times gain / 2^21, rounded down and clipped. No i32 makes it overflow.
-pub fn correct(raw: i32, offset: i32, gain: i32) -> i32
-    ensures { λ r. ⌜ r ≡ corrected raw offset gain ⌝ }
+pub fn correct(raw: i32, offset: i32, gain: i32) -> Corrected
+    ensures { λ r. ⌜ r ≡ correction raw offset gain ⌝ }
 {
-    range::clip(number::floor_div((raw as i64 - offset as i64) * gain as i64, 21))
+    let x = number::floor_div((raw as i64 - offset as i64) * gain as i64, 21);
+    Corrected {
+        value: range::clip(x),
+        clipped: range::outside(x),
+    }
 }
 
 // ((4,096 - phase) times now + phase times previous) / 4,096, rounded down.
@@ -48,10 +58,17 @@ pub struct Flow {
     pub peak: u32,
 }
 
+// How many of an interval's own voltages and currents were clipped.
+pub struct Clips {
+    pub v: u32,
+    pub i: u32,
+}
+
 // vv is the sum of the voltage squares; raw is the last raw current, where one was seen.
 pub struct Sums {
     pub vv: u64,
     pub flow: Flow,
+    pub clips: Clips,
     pub seen: bool,
     pub raw: i32,
 }
@@ -68,6 +85,7 @@ impl Sums {
                 vi: 0,
                 peak: 0,
             },
+            clips: Clips { v: 0, i: 0 },
             seen: false,
             raw: 0,
         }
@@ -84,6 +102,7 @@ impl Sums {
                 vi: 0,
                 peak: 0,
             },
+            clips: Clips { v: 0, i: 0 },
             seen: self.seen,
             raw: self.raw,
         }
@@ -97,7 +116,8 @@ impl Sums {
             let most = n as u64 * 70368744177664;
             let f = self.flow;
             let z = number::size(f.vi);
-            return (self.vv <= most) & (f.ii <= most) & (z <= most);
+            let k = self.clips;
+            return (self.vv <= most) & (f.ii <= most) & (z <= most) & (k.v <= n) & (k.i <= n);
         }
         false
     }

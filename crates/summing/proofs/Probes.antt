@@ -8,7 +8,7 @@ use lib.ListN.{length, getD, drop, drop-of-length-le}
 use lib.IntN.{ℤ, pos}
 use Rattle.card.specs.declared.Card.{Card}
 use Rattle.sample.specs.declared.Sums.{Sums}
-use Rattle.sample.specs.Sample.{voltage, current, phased}
+use Rattle.sample.specs.Sample.{voltage, current, phased, voltageClipped, currentClipped}
 use Rattle.sample.specs.Sums.{Sample, samplesIn, added, addedAll}
 use Rattle.sample.specs.Inside.{Phased}
 use Rattle.sample.proofs.Slices.{samples-long, samples-at}
@@ -27,7 +27,7 @@ probe-end p s vs is k h e = rw (drop-of-length-le (samplesIn vs is) {i = k} (ome
 
 -- what the card does, taken out once
 probe-one : (c : Card) (s : Sums) (x : Sample) → probed (probeOf c) s x ≡ added c s (x .0) (x .1)
-unfolding probed probeOf added voltage current phased
+unfolding probed probeOf added voltage current phased voltageClipped currentClipped
 probe-one c s x = refl
 
 pub probe-is : (c : Card) (s : Sums) (xs : List Sample) → probedAll (probeOf c) s xs ≡ addedAll c s xs

@@ -3,7 +3,7 @@ use mathlib.Core.List.{List, [], _∷_}
 use Rattle.card.specs.declared.Card.{Card}
 use Rattle.sample.specs.declared.Sums.{Sums}
 use Rattle.sample.specs.Fields.{voffs, ioffs, vgain, igain, phase}
-use Rattle.sample.specs.Sample.{corrected, mixed}
+use Rattle.sample.specs.Sample.{corrected, wasClipped, mixed}
 use Rattle.sample.specs.Sums.{Sample, summed, previous}
 use Rattle.summing.specs.declared.Probe.{Probe}
 
@@ -15,7 +15,8 @@ probeOf c = record { voffs = voffs c; ioffs = ioffs c; vgain = vgain c; igain = 
 unfoldable pub probed : Probe → Sums → Sample → Sums
 probed p s x =
     summed s (corrected (x .0) (p .voffs) (p .vgain))
-    (mixed (p .phase) (corrected (x .1) (p .ioffs) (p .igain)) (corrected (previous s (x .1)) (p .ioffs) (p .igain))) (x .1)
+    (mixed (p .phase) (corrected (x .1) (p .ioffs) (p .igain)) (corrected (previous s (x .1)) (p .ioffs) (p .igain)))
+    (wasClipped (x .0) (p .voffs) (p .vgain)) (wasClipped (x .1) (p .ioffs) (p .igain)) (x .1)
 
 unfoldable pub probedAll : Probe → Sums → List Sample → Sums
 probedAll p s [] = s

@@ -4,9 +4,9 @@ ghost use Prim.Native.Nat.{_≤_, _<_};
 ghost use lib.IntN.{pos};
 ghost use lib.Signed.{mag};
 ghost use lib.ListN.{length, getD};
-ghost use Rattle.sample.specs.Sample.{corrected, mixed};
-ghost use Rattle.sample.specs.Sums.{joined, summed, previous, samplesIn, addedAll, withSamples};
-ghost use Rattle.sample.specs.Inside.{Flowing, Room, Spare, Phased};
+ghost use Rattle.sample.specs.Sample.{corrected, wasClipped, mixed};
+ghost use Rattle.sample.specs.Sums.{joined, counted, summed, previous, samplesIn, addedAll, withSamples};
+ghost use Rattle.sample.specs.Inside.{Flowing, Few, Room, Spare, Phased};
 ghost use Rattle.summing.specs.Inside.{probeOf, probedAll};
 use card::Card;
 use card::names::IGAIN;
@@ -14,6 +14,8 @@ use card::names::IOFFS;
 use card::names::PHASE;
 use card::names::VGAIN;
 use card::names::VOFFS;
+use sample::Clips;
+use sample::Corrected;
 use sample::Flow;
 use sample::Sums;
 use sample::correct;
@@ -61,38 +63,55 @@ fn join(f: Flow, v: i32, i: i32) -> Flow
     }
 }
 
-fn add(s: Sums, v: i32, i: i32, raw: i32) -> Sums
-    requires { ⌜ Room s 4096 × (mag v < 8388608) × (mag i < 8388608) ⌝ }
-    ensures { λ r. ⌜ r ≡ summed s v i raw ⌝ }
+// Whether a sample's voltage, and its current, was clipped joins the counts; no branch.
+fn count(k: Clips, v: bool, i: bool) -> Clips
+    requires { ⌜ Few k 4096 ⌝ }
+    ensures { λ r. ⌜ r ≡ counted k v i ⌝ }
+{
+    Clips {
+        v: k.v + v as u32,
+        i: k.i + i as u32,
+    }
+}
+
+// v the corrected voltage, i the current corrected and mixed, and whether it was clipped before it was mixed.
+fn add(s: Sums, v: Corrected, i: i32, clipped: bool, raw: i32) -> Sums
+    requires { ⌜ Room s 4096 × (mag (v .value) < 8388608) × (mag i < 8388608) ⌝ }
+    ensures { λ r. ⌜ r ≡ summed s (v .value) i (v .clipped) clipped raw ⌝ }
 {
     let f = s.flow;
-    let flow = join(f, v, i);
+    let flow = join(f, v.value, i);
+    let k = s.clips;
+    let clips = count(k, v.clipped, clipped);
     Sums {
-        vv: s.vv + number::square(v),
+        vv: s.vv + number::square(v.value),
         flow,
+        clips,
         seen: true,
         raw,
     }
 }
 
-// One sample more: v the raw voltage, now and old the corrected currents, raw the raw current.
-fn take(s: Sums, p: Probe, v: i32, now: i32, old: i32, raw: i32) -> Sums
-    requires { ⌜ Room s 4096 × (p .phase ≤ 4095) × (mag now < 8388608) × (mag old < 8388608) ⌝ }
-    ensures { λ r. ⌜ r ≡ summed s (corrected v (p .voffs) (p .vgain)) (mixed (p .phase) now old) raw ⌝ }
+// One sample more: v the raw voltage, now and old the corrected currents, raw the raw current. Old was counted with its own sample.
+fn take(s: Sums, p: Probe, v: i32, now: Corrected, old: i32, raw: i32) -> Sums
+    requires { ⌜ Room s 4096 × (p .phase ≤ 4095) × (mag (now .value) < 8388608) × (mag old < 8388608) ⌝ }
+    ensures { λ r. ⌜ r ≡ summed s (corrected v (p .voffs) (p .vgain)) (mixed (p .phase) (now .value) old) (wasClipped v (p .voffs) (p .vgain)) (now .clipped) raw ⌝ }
 {
     let cv = correct(v, p.voffs, p.vgain);
-    let m = mix(p.phase, now, old);
-    add(s, cv, m as i32, raw)
+    let m = mix(p.phase, now.value, old);
+    add(s, cv, m as i32, now.clipped, raw)
 }
 
 // The corrected current before a sample whose raw current is raw.
 fn corrected_before(s: Sums, p: Probe, raw: i32) -> i32
     ensures { λ r. ⌜ r ≡ corrected (previous s raw) (p .ioffs) (p .igain) ⌝ }
 {
+    let mut before = raw;
     if s.seen {
-        return correct(s.raw, p.ioffs, p.igain);
+        before = s.raw;
     }
-    correct(raw, p.ioffs, p.igain)
+    let c = correct(before, p.ioffs, p.igain);
+    c.value
 }
 
 // The samples of two slices, one after another; first is the corrected current before the first of them.
@@ -108,7 +127,7 @@ fn run_with(s0: Sums, p: Probe, first: i32, v: &[i32], i: &[i32]) -> Sums
         let raw = i[k];
         let now = correct(raw, p.ioffs, p.igain);
         s = take(s, p, v[k], now, old, raw);
-        old = now;
+        old = now.value;
         k += 1;
     }
     s

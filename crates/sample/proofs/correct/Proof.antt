@@ -1,9 +1,12 @@
 -- `correct` meets its contract.
-use mathlib.Core.Path.{_∙_, ap}
+use mathlib.Core.Path.{_≡_, _∙_, ap, ap₂}
+use mathlib.Core.Bool.{Bool}
+use lib.IntN.{ℤ}
 use mir.Syntax.{w32, w64}
-use Rattle.range.specs.Range.{clipped}
+use mir.Val.{toZ, ofZ}
+use Rattle.range.specs.Range.{outside24, clipped}
 use Rattle.number.proofs.Fits.{ranges, answer}
-use Rattle.sample.specs.Sample.{corrected}
+use Rattle.sample.specs.Sample.{scaled, corrected, wasClipped, correction}
 use borrow.Author.Needs.{needs}
 use Rattle.sample.proofs.correct.Statement.{statement}
 use Rattle.sample.proofs.correct.Tie as tie
@@ -29,9 +32,21 @@ floor-div-requires c κs = search needs
 clip-requires : tie.Need-clip-requires
 clip-requires c κs = search needs
 
+-- the value before clipping
+scaled-is : (c : tie.After-floor-div) → toZ w64 (ofZ w64 (c .floor-div .result)) ≡ scaled (c .before .args .raw) (c .before .args .offset) (c .before .args .gain)
+unfolding scaled
+scaled-is c = answer w64 (c .floor-div .ok) (c .floor-div .ensures ∙ search ranges)
+
+outside-requires : tie.Need-outside-requires
+outside-requires c κs = search needs
+
 returns : tie.Need-returns
-unfolding corrected
-returns c = answer w32 (c .clip .ok) (c .clip .ensures ∙ ap clipped (answer w64 (c .before .floor-div .ok) (c .before .floor-div .ensures ∙ search ranges)))
+unfolding correction corrected wasClipped
+returns c =
+    let x = scaled-is (c .before .before) in
+    ap₂ (λ (v : ℤ) (b : Bool). record { value = v; clipped = b })
+    (answer w32 (c .before .clip .ok) (c .before .clip .ensures ∙ ap clipped x))
+    (c .outside .ensures ∙ ap outside24 x)
 
 pub correct-spec : {M : Type 1} → statement M
 correct-spec =
@@ -44,4 +59,5 @@ correct-spec =
     mul-floor-div
     floor-div-requires
     clip-requires
+    outside-requires
     returns)

@@ -1,15 +1,19 @@
 -- `run_with` meets its contract. The loop keeps the sums, and the corrected current before the next sample.
-use Prim.Native.Nat.{suc, _+_, _-_, _≤_}
+use Prim.Native.Nat.{suc, _+_, _-_, _≤_, _<_}
 use native.Mathlib.Omega.{arith}
 use mathlib.Core.Path.{_≡_, refl, sym, _∙_}
-use borrow.Author.Needs.{needs, sfits-of}
+use borrow.Author.Needs.{needs}
 use denote.Ref.{now}
 use lib.IntN.{ℤ, pos}
 use lib.ListN.{getD, length, drop}
 use mir.Syntax.{w32}
 use mir.Val.{SFits, toZ}
 use mir.Facts.{toZ-ofZ}
-use Rattle.sample.specs.Sample.{corrected, mixed}
+use lib.Signed.{mag}
+use Rattle.range.proofs.Ranges.{in-fits, in-mag}
+use Rattle.sample.specs.declared.Sums.{Sums}
+use Rattle.summing.specs.declared.Probe.{Probe}
+use Rattle.sample.specs.Sample.{correction, corrected, wasClipped, mixed}
 use Rattle.sample.proofs.Corrections.{mixed-in, corrected-in}
 use Rattle.sample.specs.Sums.{previous, summed}
 use Rattle.summing.specs.Inside.{probedAll, probed}
@@ -47,6 +51,10 @@ mul-take c = search needs
 shared-slice-copy-out-take : tie.Need-shared-slice-copy-out-take Inv-loop μ-loop
 shared-slice-copy-out-take c = omega arith
 
+-- there is a sample, and a block's length is small
+turn : (c : tie.In-loop Inv-loop μ-loop) → (c .before .loop .k < length (now (c .before .before .args .v))) × (length (now (c .before .before .args .v)) ≤ 4096)
+turn c = (c .loop-test .taken, omega (arith, c .before .before .pre .0 .1 .few))
+
 -- the raw current, and the corrected one
 abbrev raw-of : tie.After-correct Inv-loop μ-loop → ℤ
 raw-of c = let top = c .before .before .before .before .before in getD (now (top .before .args .i)) (top .loop .k) (pos 0)
@@ -60,22 +68,25 @@ igain-fits c = search needs
 raw-fits : (c : tie.After-raw Inv-loop μ-loop) → let top = c .before .before in SFits w32 (getD (now (top .before .args .i)) (top .loop .k) (pos 0))
 raw-fits c = search needs
 
-now-is : (c : tie.After-correct Inv-loop μ-loop) → let start = c .before .before .before .before .before .before in c .correct .result ≡ corrected (raw-of c) (start .args .p .ioffs) (start .args .p .igain)
+now-is : (c : tie.After-correct Inv-loop μ-loop) → let start = c .before .before .before .before .before .before in c .correct .result ≡ correction (raw-of c) (start .args .p .ioffs) (start .args .p .igain)
 now-is c = c .correct .ensures ∙ rw (toZ-ofZ (raw-fits (c .before .before .before)), toZ-ofZ (ioffs-fits (c .before)), toZ-ofZ (igain-fits (c .before)))
+
+now-in : (c : tie.After-correct Inv-loop μ-loop) → mag (c .correct .result .value) < 8388608
+unfolding correction
+now-in c = let a = c .before .before .before .before .before .before .args in rw (now-is c) (corrected-in (raw-of c) (a .p .ioffs) (a .p .igain))
 
 take-requires : tie.Need-take-requires Inv-loop μ-loop
 take-requires c κs =
     let top = c .before .before .before .before .before .before in
-    let start = top .before in
-    let h : SFits w32 (c .before .correct .result) = sfits-of (c .before .correct .ok) in (
+    let start = top .before in (
       spare-room (top .loop .s) _ (top .loop .inv .1),
       start .pre .0 .0,
-      rw (toZ-ofZ h, now-is (c .before)) (corrected-in (raw-of (c .before)) (start .args .p .ioffs) (start .args .p .igain)),
+      now-in (c .before),
       rw (top .loop .inv .3) (corrected-in (previous (top .loop .s) (raw-of (c .before))) (start .args .p .ioffs) (start .args .p .igain)),
     )
 
 add-k : tie.Need-add-k Inv-loop μ-loop
-add-k c = omega arith
+add-k c = record { fits = omega (arith, turn (c .before .before .before .before .before .before .before)) }
 
 loop-less : tie.Need-loop-less Inv-loop μ-loop
 loop-less c = omega arith
@@ -83,16 +94,22 @@ loop-less c = omega arith
 v-fits : (c : tie.After-take-arg Inv-loop μ-loop) → let top = c .before .before .before .before .before .before in SFits w32 (getD (now (top .before .args .v)) (top .loop .k) (pos 0))
 v-fits c = search needs
 
+-- what was taken, with the corrected values and what was clipped
+abbrev taken : Probe → Sums → ℤ → ℤ → Sums
+taken p s v raw =
+    summed s (corrected v (p .voffs) (p .vgain)) (mixed (p .phase) (corrected raw (p .ioffs) (p .igain)) (corrected (previous s raw) (p .ioffs) (p .igain)))
+    (wasClipped v (p .voffs) (p .vgain)) (wasClipped raw (p .ioffs) (p .igain)) raw
+
 take-is : (c : tie.After-take Inv-loop μ-loop) →
     let top = c .before .before .before .before .before .before .before in
     let a = top .before .args in
     let k = top .loop .k in
-    c .take .result ≡ summed (top .loop .s) (corrected (getD (now (a .v)) k (pos 0)) (a .p .voffs) (a .p .vgain)) (mixed (a .p .phase) (corrected (getD (now (a .i)) k (pos 0)) (a .p .ioffs) (a .p .igain)) (corrected (previous (top .loop .s) (getD (now (a .i)) k (pos 0))) (a .p .ioffs) (a .p .igain))) (getD (now (a .i)) k (pos 0))
+    c .take .result ≡ taken (a .p) (top .loop .s) (getD (now (a .v)) k (pos 0)) (getD (now (a .i)) k (pos 0))
+unfolding correction
 take-is c =
     let now′ = c .before .before in
     let top = now′ .before .before .before .before .before in
-    let h : SFits w32 (now′ .correct .result) = sfits-of (now′ .correct .ok) in
-    c .take .ensures ∙ rw (toZ-ofZ h, now-is now′, top .loop .inv .3, toZ-ofZ (v-fits (c .before)), toZ-ofZ (raw-fits (now′ .before .before .before)))
+    c .take .ensures ∙ rw (now-is now′, top .loop .inv .3, toZ-ofZ (v-fits (c .before)), toZ-ofZ (raw-fits (now′ .before .before .before)))
 
 take-one : (c : tie.After-take Inv-loop μ-loop) →
     let top = c .before .before .before .before .before .before .before in
@@ -102,8 +119,10 @@ unfolding probed
 take-one c = take-is c
 
 loop-again : tie.Need-loop-again Inv-loop μ-loop
+unfolding correction
 loop-again c =
-    let now′ = c .before .before in
+    let t = c .before in
+    let now′ = t .before .before in
     let top = now′ .before .before .before .before .before in
     let start = top .before in
     let p = start .args .p in
@@ -111,15 +130,16 @@ loop-again c =
     let i = now (start .args .i) in
     let k = top .loop .k in
     let s = top .loop .s in
-    let h : SFits w32 (now′ .correct .result) = sfits-of (now′ .correct .ok) in
-    let less : suc (length v - (k + 1)) ≡ length v - k = omega arith in (
-      omega arith,
-      rw (take-is c) (spare-more s (corrected (getD v k (pos 0)) (p .voffs) (p .vgain)) (mixed (p .phase) (corrected (getD i k (pos 0)) (p .ioffs) (p .igain)) (corrected (previous s (getD i k (pos 0))) (p .ioffs) (p .igain))) (getD i k (pos 0)) (length v - (k + 1))
+    let here = turn (now′ .before .before .before .before) in
+    let less : suc (length v - (k + 1)) ≡ length v - k = omega (arith, here) in (
+      omega (arith, here),
+      rw (take-is t) (spare-more s (corrected (getD v k (pos 0)) (p .voffs) (p .vgain)) (mixed (p .phase) (corrected (getD i k (pos 0)) (p .ioffs) (p .igain)) (corrected (previous s (getD i k (pos 0))) (p .ioffs) (p .igain)))
+          (wasClipped (getD v k (pos 0)) (p .voffs) (p .vgain)) (wasClipped (getD i k (pos 0)) (p .ioffs) (p .igain)) (getD i k (pos 0)) (length v - (k + 1))
           (spare-at s (length v - k) (suc (length v - (k + 1))) (sym less) (top .loop .inv .1))
           (corrected-in (getD v k (pos 0)) (p .voffs) (p .vgain))
           (mixed-in (p .phase) _ _ (omega (arith, start .pre .0 .0)) (corrected-in (getD i k (pos 0)) (p .ioffs) (p .igain)) (corrected-in (previous s (getD i k (pos 0))) (p .ioffs) (p .igain)))),
-      rw (take-one c) (sym (probe-more p s v i k (omega arith) (start .pre .0 .2)) ∙ top .loop .inv .2),
-      rw (toZ-ofZ h, now-is now′, take-is c, previous-after),
+      rw (take-one t) (sym (probe-more p s v i k (here .0) (start .pre .0 .2)) ∙ top .loop .inv .2),
+      rw (toZ-ofZ (in-fits (in-mag (now′ .correct .result .value) (now-in now′))), now-is now′, take-is t, previous-after),
     )
 
 returns : tie.Need-returns Inv-loop μ-loop

@@ -6,7 +6,7 @@ use lib.Signed.{mag}
 use mir.Syntax.{w32, w64}
 use mir.Val.{SFits}
 use mir.Facts.{toZ-ofZ}
-use Rattle.sample.specs.Sample.{corrected, mixed}
+use Rattle.sample.specs.Sample.{correction, mixed}
 use Rattle.range.proofs.Ranges.{in-fits, in-mag}
 use Rattle.sample.proofs.Corrections.{mixed-in, corrected-in}
 use borrow.Author.Needs.{needs, sfits-of}
@@ -25,19 +25,23 @@ voffs-fits c = search needs
 vgain-fits : (c : tie.After-struct-told2) → SFits w32 (c .before .before .args .p .vgain)
 vgain-fits c = search needs
 
-voltage-is : (c : tie.After-correct) → let s = c .before .before .before in c .correct .result ≡ corrected (s .args .v) (s .args .p .voffs) (s .args .p .vgain)
+now-fits : (c : tie.After-struct-told3) → SFits w32 (c .before .before .before .before .args .now .value)
+now-fits c = search needs
+
+voltage-is : (c : tie.After-correct) → let s = c .before .before .before in c .correct .result ≡ correction (s .args .v) (s .args .p .voffs) (s .args .p .vgain)
 voltage-is c = rw (toZ-ofZ (c .before .before .before .fits .v), toZ-ofZ (voffs-fits (c .before)), toZ-ofZ (vgain-fits (c .before))) at (c .correct .ensures)
 
-voltage-in : (c : tie.After-correct) → mag (c .correct .result) < 8388608
+voltage-in : (c : tie.After-correct) → mag (c .correct .result .value) < 8388608
+unfolding correction
 voltage-in c = let s = c .before .before .before in rw (voltage-is c) (corrected-in (s .args .v) (s .args .p .voffs) (s .args .p .vgain))
 
-mix-is : (c : tie.After-mix) → let s = c .before .before .before .before in c .mix .result ≡ mixed (s .args .p .phase) (s .args .now) (s .args .old)
-mix-is c = let s = c .before .before .before .before in rw (toZ-ofZ (s .fits .now), toZ-ofZ (s .fits .old)) at (c .mix .ensures)
+mix-is : (c : tie.After-mix) → let s = c .before .before .before .before .before in c .mix .result ≡ mixed (s .args .p .phase) (s .args .now .value) (s .args .old)
+mix-is c = let s = c .before .before .before .before .before in rw (toZ-ofZ (now-fits (c .before)), toZ-ofZ (s .fits .old)) at (c .mix .ensures)
 
 mix-in : (c : tie.After-mix) → mag (c .mix .result) < 8388608
 mix-in c =
-    let s = c .before .before .before .before in
-    rw (mix-is c) (mixed-in (s .args .p .phase) (s .args .now) (s .args .old) (omega (arith, s .pre .1)) (s .pre .2) (s .pre .3))
+    let s = c .before .before .before .before .before in
+    rw (mix-is c) (mixed-in (s .args .p .phase) (s .args .now .value) (s .args .old) (omega (arith, s .pre .1)) (s .pre .2) (s .pre .3))
 
 mix-fits : (c : tie.After-mix) → SFits w64 (c .mix .result)
 mix-fits c = sfits-of (c .mix .ok)
@@ -47,15 +51,16 @@ cast-add c = rw (toZ-ofZ (mix-fits c)) (in-fits (in-mag (c .mix .result) (mix-in
 
 add-requires : tie.Need-add-requires
 add-requires c κs =
-    let s = c .before .before .before .before in
-    rw (toZ-ofZ (mix-fits c), toZ-ofZ (in-fits (in-mag (c .mix .result) (mix-in c))), toZ-ofZ (in-fits (in-mag (c .before .correct .result) (voltage-in (c .before)))))
-    (s .pre .0, voltage-in (c .before), mix-in c)
+    let s = c .before .before .before .before .before in
+    rw (toZ-ofZ (mix-fits c), toZ-ofZ (in-fits (in-mag (c .mix .result) (mix-in c))))
+    (s .pre .0, voltage-in (c .before .before), mix-in c)
 
 returns : tie.Need-returns
+unfolding correction
 returns c =
     let m = c .before in
-    let v = m .before in
-    rw (toZ-ofZ (mix-fits m), toZ-ofZ (in-fits (in-mag (m .mix .result) (mix-in m))), toZ-ofZ (in-fits (in-mag (v .correct .result) (voltage-in v))), mix-is m, voltage-is v, toZ-ofZ (v .before .before .before .fits .raw)) at (c .add .ensures)
+    let v = m .before .before in
+    rw (toZ-ofZ (mix-fits m), toZ-ofZ (in-fits (in-mag (m .mix .result) (mix-in m))), mix-is m, voltage-is v, toZ-ofZ (v .before .before .before .fits .raw)) at (c .add .ensures)
 
 pub take-spec : {M : Type 1} → statement M
 take-spec = tie.close (tie.spec correct-requires mix-requires cast-add add-requires returns)

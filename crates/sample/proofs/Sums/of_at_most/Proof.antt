@@ -20,7 +20,7 @@ vi-fits c = search needs
 returns : tie.Need-returns
 unfolding ofAtMost
 returns c =
-    let z = c .before .before in
+    let z = c .before .before .before .before .before in
     rw (z .size .ensures, toZ-ofZ (vi-fits (z .before)), le-leb _ _ (z .before .before .before .if1 .taken))
 
 returns-2 : tie.Need-returns-2
