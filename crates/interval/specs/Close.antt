@@ -8,6 +8,7 @@ use Rattle.card.specs.declared.Card.{Card}
 use Rattle.serial.specs.Serials.{noSerial}
 use Rattle.sample.specs.declared.Flow.{Flow}
 use Rattle.sample.specs.declared.Sums.{Sums}
+use Rattle.sample.specs.Sums.{noClips}
 use Rattle.interval.specs.declared.Settings.{Settings}
 use Rattle.interval.specs.declared.Source.{Source}
 use Rattle.interval.specs.declared.Registers.{Registers}
@@ -47,11 +48,12 @@ registersAfter first t c s n old =
 unfoldable pub numberAfter : ℕ → ℕ
 numberAfter n = (n + 1) % 2 ^ 32
 
--- the closed interval: its number, the serial of its card, and the registers as they now stand
+-- the closed interval: its number, the serial of its card, how many of its samples were clipped, and the registers as they now stand
 unfoldable pub closedOf : Bool → Settings → Card → Sums → ℕ → Closed → Closed
 closedOf first t c s n old = record {
   number = numberAfter (old .number);
   serial = c .serial;
+  clips = s .clips;
   regs = registersAfter first t c s n (old .regs);
 }
 
@@ -63,4 +65,4 @@ abbrev pub noRegisters : Registers
 noRegisters = record { vrms = pos 0; a = noSource; ends = record { low = replicate 6 (pos 0); high = replicate 6 (pos 0) } }
 
 abbrev pub noneClosed : Closed
-noneClosed = record { number = 0; serial = noSerial; regs = noRegisters }
+noneClosed = record { number = 0; serial = noSerial; clips = noClips; regs = noRegisters }

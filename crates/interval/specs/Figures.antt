@@ -1,5 +1,5 @@
--- Figures to check by, as two tables: C1 to C12 of document 01, and ours for no load (document 02, A1). Each line has what the definitions give
--- and, beside it, what it must be. Gain one and other fields 0 unless said.
+-- Figures to check by, as three tables: C1 to C12 of document 01, and ours for no load and for clipped samples (document 02, A1 and A2). Each line
+-- has what the definitions give and, beside it, what it must be. Gain one and other fields 0 unless said.
 use Prim.Native.Nat.{ℕ, _-_}
 use mathlib.Core.Bool.{true}
 use mathlib.Core.List.{List, [], _∷_, _++_, map}
@@ -10,6 +10,7 @@ use Rattle.serial.specs.Serials.{noSerial}
 use Rattle.energy.specs.declared.Energy.{Energy}
 use Rattle.interval.specs.declared.Settings.{Settings}
 use Rattle.interval.specs.declared.Registers.{Registers}
+use Rattle.interval.specs.declared.Closed.{Closed}
 use Rattle.sample.specs.Sample.{voltage, phased}
 use Rattle.sample.specs.Sums.{Sample, addedAll, noSums}
 use Rattle.energy.specs.Energies.{plusAfter, noEnergy}
@@ -25,10 +26,13 @@ unfoldable pub having : ℕ → ℤ → Card → Card
 having k x c = record { serial = c .serial; fields = set (c .fields) (k - 1) x }
 
 -- a module's first interval, with these samples
-unfoldable pub interval : Card → List Sample → Registers
-interval c xs =
+unfoldable pub closing : Card → List Sample → Closed
+closing c xs =
     let t : Settings = record { n = length xs; b = 1; track = replicate 6 off } in
-    closedOf true t c (addedAll c noSums xs) (length xs) noneClosed .regs
+    closedOf true t c (addedAll c noSums xs) (length xs) noneClosed
+
+unfoldable pub interval : Card → List Sample → Registers
+interval c xs = closing c xs .regs
 
 unfoldable pub vrms : Card → List Sample → ℤ
 vrms c xs = interval c xs .vrms
@@ -132,4 +136,39 @@ noLoadFigures =
     -- root 0 and SQUELCH 0: P stays, and 4 times 2 is counted; SQUELCH 1: squelched
     ∷ (shownRow (having 6 (pos 6) plain) fives, pos 8388607 ∷ pos 0 ∷ pos 5 ∷ pos 4 ∷ pos 0 ∷ pos 0 ∷ pos 0 ∷ pos 8 ∷ pos 0 ∷ [])
     ∷ (shownRow (having 7 (pos 1) (having 6 (pos 6) plain)) fives, onlyPeak 5)
+    ∷ []
+
+-- how many voltages and how many currents were clipped
+unfoldable pub clippedIn : Card → List Sample → List ℕ
+clippedIn c xs = let k = closing c xs .clips in k .v ∷ k .i ∷ []
+
+-- both gains two
+unfoldable pub doubled : Card
+doubled = having 4 (pos 4194304) (having 3 (pos 4194304) plain)
+
+-- both gains one and a half
+unfoldable pub byHalfMore : Card
+byHalfMore = having 4 (pos 3145728) (having 3 (pos 3145728) plain)
+
+unfoldable pub clipFigures : List (List ℕ × List ℕ)
+clipFigures =
+    -- a value that is an end of the range is not clipped
+    (clippedIn plain ((pos 8388607, negsuc 8388607) ∷ (negsuc 8388607, pos 8388607) ∷ []), 0 ∷ 0 ∷ [])
+    -- an offset of one brings it beyond: above with -1, below with 1
+    ∷ (clippedIn (having 1 (negsuc 0) plain) ((pos 8388607, pos 8388607) ∷ (pos 8388606, pos 0) ∷ []), 1 ∷ 0 ∷ [])
+    ∷ (clippedIn (having 1 (pos 1) plain) ((negsuc 8388607, negsuc 8388607) ∷ (negsuc 8388606, pos 0) ∷ []), 1 ∷ 0 ∷ [])
+    ∷ (clippedIn (having 2 (negsuc 0) plain) ((pos 8388607, pos 8388607) ∷ (pos 0, pos 8388606) ∷ []), 0 ∷ 1 ∷ [])
+    ∷ (clippedIn (having 2 (pos 1) plain) ((negsuc 8388607, negsuc 8388607) ∷ (pos 0, negsuc 8388606) ∷ []), 0 ∷ 1 ∷ [])
+    -- gain two: 8,388,608 and -8,388,610 are beyond, 8,388,606 and -8,388,608 are not
+    ∷ (
+      clippedIn doubled ((pos 4194304, pos 4194303) ∷ (negsuc 4194304, negsuc 4194303) ∷ (pos 4194303, negsuc 4194304) ∷ []),
+      2 ∷ 1 ∷ [],
+    )
+    -- the value is rounded down first: 8,388,607.5 and -8,388,607.5 become ends of the range, -8,388,609 is beyond
+    ∷ (clippedIn byHalfMore ((pos 5592405, negsuc 5592404) ∷ (negsuc 5592404, negsuc 5592405) ∷ []), 0 ∷ 1 ∷ [])
+    -- the previous current is not counted again, and a module's first sample, which is its own previous one, counts once
+    ∷ (clippedIn (having 5 (pos 2048) doubled) ((pos 0, pos 8388607) ∷ (pos 0, pos 0) ∷ []), 0 ∷ 1 ∷ [])
+    ∷ (clippedIn (having 5 (pos 2048) doubled) ((pos 0, pos 0) ∷ (pos 0, negsuc 8388607) ∷ []), 0 ∷ 1 ∷ [])
+    -- every one
+    ∷ (clippedIn doubled (replicate 5 (negsuc 8388607, pos 8388607)), 5 ∷ 5 ∷ [])
     ∷ []

@@ -1,4 +1,4 @@
--- A whole interval, worked from its card and the list of its samples alone: what one works out by hand from document 01 and A1 of document 02.
+-- A whole interval, worked from its card and the list of its samples alone: what one works out by hand from documents 01 and 02 (A1, A2).
 -- `proofs/Wholes.antt` shows that the sums which are kept sample by sample are these.
 use Prim.Native.Nat.{ℕ, _+_, max}
 use mathlib.Core.Bool.{Bool, true}
@@ -8,11 +8,12 @@ use lib.ListN.{length}
 use Rattle.number.specs.Sign.{squareOf}
 use Rattle.card.specs.declared.Card.{Card}
 use Rattle.sample.specs.declared.Flow.{Flow}
+use Rattle.sample.specs.declared.Clips.{Clips}
 use Rattle.sample.specs.declared.Sums.{Sums}
 use Rattle.interval.specs.declared.Settings.{Settings}
 use Rattle.interval.specs.declared.Closed.{Closed}
-use Rattle.sample.specs.Sample.{voltage, phased}
-use Rattle.sample.specs.Sums.{Sample}
+use Rattle.sample.specs.Sample.{voltage, phased, voltageClipped, currentClipped}
+use Rattle.sample.specs.Sums.{Sample, oneIf}
 use Rattle.interval.specs.Close.{closedOf}
 
 -- the corrected voltage and the current, corrected and mixed, of each sample; `before` is the raw current before the first
@@ -44,6 +45,13 @@ flowOf ys = record {
   peak = largest (λ (y : Sample). natAbs (y .1)) ys;
 }
 
+-- how many of the raw voltages, and of the raw currents, the card clips (document 02, A2)
+unfoldable pub clipsOf : Card → List Sample → Clips
+clipsOf c xs = record {
+  v = total (λ (x : Sample). oneIf (voltageClipped c (x .0))) xs;
+  i = total (λ (x : Sample). oneIf (currentClipped c (x .1))) xs;
+}
+
 -- the raw current of the last sample
 unfoldable pub lastRaw : ℤ → List Sample → ℤ
 lastRaw before [] = before
@@ -53,7 +61,7 @@ lastRaw before (x ∷ xs) = lastRaw (x .1) xs
 unfoldable pub sumsOf : Card → ℤ → List Sample → Sums
 sumsOf c before xs =
     let ys = worked c before xs in
-    record { vv = voltageSquares ys; flow = flowOf ys; seen = true; raw = lastRaw before xs }
+    record { vv = voltageSquares ys; flow = flowOf ys; clips = clipsOf c xs; seen = true; raw = lastRaw before xs }
 
 -- the interval that closes with these samples
 unfoldable pub intervalOf : Bool → Settings → Card → ℤ → List Sample → Closed → Closed

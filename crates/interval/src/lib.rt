@@ -7,6 +7,7 @@ use address::WordAddr;
 use card::Card;
 use energy::Energy;
 use rules::WATT;
+use sample::Clips;
 use sample::Flow;
 use sample::Sums;
 use serial::Serial;
@@ -32,10 +33,11 @@ pub struct Registers {
     pub ends: Ends,
 }
 
-// An interval that has closed; serial is that of the card it was worked with.
+// An interval that has closed; serial is that of the card it was worked with, clips counts of its own samples.
 pub struct Closed {
     pub number: u32,
     pub serial: Serial,
+    pub clips: Clips,
     pub regs: Registers,
 }
 
@@ -125,6 +127,7 @@ impl Closed {
         Closed {
             number: 0,
             serial,
+            clips: Clips { v: 0, i: 0 },
             regs: Registers {
                 vrms: 0,
                 a: Source {
@@ -147,9 +150,11 @@ impl Closed {
         let old = self.regs;
         let regs = old.after(first, t, c, s, n);
         let serial = c.serial;
+        let clips = s.clips;
         Closed {
             number: std::num::wrapping_add_u32(self.number, 1),
             serial,
+            clips,
             regs,
         }
     }

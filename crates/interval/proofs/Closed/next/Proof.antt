@@ -12,7 +12,7 @@ wrapping-add-u32-requires c κs = search needs
 
 returns : tie.Need-returns
 unfolding closedOf numberAfter
-returns c = rw (c .wrapping-add-u32 .ensures, c .before .before .after .ensures)
+returns c = rw (c .wrapping-add-u32 .ensures, c .before .before .before .after .ensures)
 
 pub next-spec : {M : Type 1} → statement M
 next-spec = tie.close (tie.spec after-requires wrapping-add-u32-requires returns)
