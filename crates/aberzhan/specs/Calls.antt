@@ -10,6 +10,7 @@ use Rattle.steps.specs.declared.Answer.{Answer}
 use Rattle.steps.specs.declared.Answer.the-variants.{Done, Refused}
 use Rattle.serial.specs.declared.Serial.{Serial}
 use Rattle.address.specs.declared.ByteAddr.{ByteAddr}
+use Rattle.sample.specs.declared.Clips.{Clips}
 use Rattle.meter.specs.Core.{meterOf, keptOf}
 use Rattle.port.specs.declared.Reading.{Reading}
 use Rattle.port.specs.declared.Reading.the-variants.{Value as ReadOut, Refused as NotRead}
@@ -81,10 +82,10 @@ abbrev pub replyOf : Answer → Reply aberzhan
 replyOf Done = done
 replyOf (Refused n) = refuses n
 
--- a hold that is done returns the interval's number and serial
-abbrev pub heldReply : Answer → ℕ → Serial → Reply aberzhan
-heldReply Done n s = returns (interval n s)
-heldReply (Refused r) n s = refuses r
+-- a hold that is done returns the interval's number, its serial and its counts of clipped samples
+abbrev pub heldReply : Answer → ℕ → Serial → Clips → Reply aberzhan
+heldReply Done n s k = returns (interval n s k)
+heldReply (Refused r) n s k = refuses r
 
 -- a read returns the value of a register
 abbrev pub readReply : Reading → Reply aberzhan
@@ -95,7 +96,7 @@ abbrev pub fromStep : Stepped → Reply aberzhan × Module
 fromStep r = (replyOf (r .answer), r .after)
 
 abbrev pub fromHold : Holding → Reply aberzhan × Module
-fromHold r = (heldReply (r .answer) (r .number) (r .serial), r .after)
+fromHold r = (heldReply (r .answer) (r .number) (r .serial) (r .clips), r .after)
 
 abbrev pub fromRead : Looked → Reply aberzhan × Module
 fromRead r = (readReply (r .answer), r .after)

@@ -50,8 +50,14 @@ waitsIf (Refused n) c m = m
 unfoldable pub committed : Module → ℤ → Finished → Stepped
 committed m port f = deskDid (withMeter (waitsIf (f .answer) (f .card) (m .meter)) m) port (record { answer = f .answer; after = f .after })
 
--- and of a hold; where nothing was copied, the number is 0 and the serial none
+-- and of a hold; where nothing was copied, the numbers are 0 and the serial none
 unfoldable pub held : Module → ℤ → Copied → Holding
 held m port c =
     let new = c .held in
-    record { answer = c .answer; number = new .closed .number; serial = new .closed .serial; after = cond (new .any) (holdPut m port new) m }
+    record {
+      answer = c .answer;
+      number = new .closed .number;
+      serial = new .closed .serial;
+      clips = new .closed .clips;
+      after = cond (new .any) (holdPut m port new) m;
+    }

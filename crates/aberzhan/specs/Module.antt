@@ -9,6 +9,7 @@ use Rattle.steps.specs.declared.Answer.the-variants.{Done, Refused}
 use Rattle.serial.specs.Serials.{noSerial}
 use Rattle.card.specs.declared.Card.{Card}
 use Rattle.address.specs.declared.WordAddr.{WordAddr}
+use Rattle.sample.specs.Sums.{noClips}
 use Rattle.address.specs.declared.ByteAddr.{ByteAddr}
 use Rattle.meter.specs.declared.Meter.{Meter}
 use Rattle.meter.specs.Blocks.{waitOf, blockOf as meterBlock}
@@ -88,13 +89,20 @@ dropOf m port = atPort (portAt port) (refusal 8 m) (λ p. atDesk m p (dropping (
 
 -- ---- readings
 
--- hold: 8, 14. Returns the interval's number and serial, and replaces an earlier hold; 0 and no serial if it is refused.
+-- hold: 8, 14. Returns the interval's number, its serial and its counts of clipped samples, and replaces an earlier hold; 0 and no serial if it is
+-- refused.
 abbrev pub notHeld : ℕ → Module → Holding
-notHeld n m = record { answer = Refused n; number = 0; serial = noSerial; after = m }
+notHeld n m = record { answer = Refused n; number = 0; serial = noSerial; clips = noClips; after = m }
 
 abbrev pub holding : Module → Port → OrRefusal Held → Holding
 holding m p (refused n) = notHeld n m
-holding m p (accepted h) = record { answer = Done; number = h .closed .number; serial = h .closed .serial; after = withHeld p h m }
+holding m p (accepted h) = record {
+  answer = Done;
+  number = h .closed .number;
+  serial = h .closed .serial;
+  clips = h .closed .clips;
+  after = withHeld p h m;
+}
 
 unfoldable pub holdOf : Module → ℤ → Holding
 holdOf m port =

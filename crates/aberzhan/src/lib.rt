@@ -13,6 +13,7 @@ use meter::Meter;
 use port::Copied;
 use port::Held;
 use port::Reading;
+use sample::Clips;
 use serial::Serial;
 use steps::Answer;
 
@@ -31,11 +32,12 @@ pub struct Stepped {
     pub after: Module,
 }
 
-// What a hold returns: beside the answer the interval's number and serial; 0 and none if it is refused.
+// What a hold returns: beside the answer the interval's number, its serial and how many of its samples were clipped; 0 and none if it is refused.
 pub struct Holding {
     pub answer: Answer,
     pub number: u32,
     pub serial: Serial,
+    pub clips: Clips,
     pub after: Module,
 }
 
@@ -205,6 +207,7 @@ impl Module {
     {
         let answer = c.answer;
         let serial = c.held.closed.serial;
+        let clips = c.held.closed.clips;
         let h = c.held;
         if h.any {
             if port < 1 {
@@ -217,6 +220,7 @@ impl Module {
             answer,
             number: c.held.closed.number,
             serial,
+            clips,
             after: self,
         }
     }
@@ -235,6 +239,7 @@ impl Module {
             answer: Answer::Refused(8),
             number: 0,
             serial: none,
+            clips: Clips { v: 0, i: 0 },
             after: self,
         }
     }

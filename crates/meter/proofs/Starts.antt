@@ -23,7 +23,7 @@ unfolding freshOf
 fresh-sound n b track n1 n2 = record {
   n-most = n2;
   taken-most = n1;
-  room = record { vv = lit≤ tt; flow = record { ii = lit≤ tt; vi = lit≤ tt } };
+  room = record { vv = lit≤ tt; flow = record { ii = lit≤ tt; vi = lit≤ tt }; clips = record { v = lit≤ tt; i = lit≤ tt } };
   waiting = no-card-phased;
   force = no-card-phased;
 }

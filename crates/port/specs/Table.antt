@@ -8,6 +8,7 @@ use lib.ListN.{replicate}
 use Rattle.steps.specs.Answers.{OrRefusal, refused, accepted}
 use Rattle.serial.specs.Serials.{noSerial}
 use Rattle.address.specs.declared.WordAddr.{WordAddr}
+use Rattle.sample.specs.Sums.{noClips}
 use Rattle.interval.specs.declared.Registers.{Registers}
 use Rattle.address.specs.Slots.{off}
 use Rattle.port.specs.declared.Held.{Held}
@@ -28,7 +29,7 @@ module _ (va-rms ia-rms ia-peak watt-a va-a pfa ia-crest : ℤ) (pos-cnt neg-cnt
   }
 
   abbrev pub held : List WordAddr → Held
-  held track = record { any = true; closed = record { number = 1; serial = noSerial; regs = values }; track = track }
+  held track = record { any = true; closed = record { number = 1; serial = noSerial; clips = noClips; regs = values }; track = track }
 
   -- the nine registers that are no MIN or MAX
   abbrev pub plainTable : List (ℕ × ℤ)

@@ -8,13 +8,13 @@ returns : tie.Need-returns
 unfolding held holdPut sideOf
 returns c =
     let any = c .before in
-    simp (any .if1 .taken, rw (toZ-ofZ (any .before .before .before .fits .port)) at (c .if2 .taken))
+    simp (any .if1 .taken, rw (toZ-ofZ (any .before .before .before .before .fits .port)) at (c .if2 .taken))
 
 returns-2 : tie.Need-returns-2
 unfolding held holdPut sideOf
 returns-2 c =
     let any = c .before in
-    simp (any .if1 .taken, rw (toZ-ofZ (any .before .before .before .fits .port)) at (c .if2 .left))
+    simp (any .if1 .taken, rw (toZ-ofZ (any .before .before .before .before .fits .port)) at (c .if2 .left))
 
 returns-3 : tie.Need-returns-3
 unfolding held
