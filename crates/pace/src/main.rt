@@ -11,8 +11,8 @@ use steps::Answer;
 // VRMS and the six figures, and both counts, by their byte addresses.
 const REGISTERS: [i64; 9] = [0x81, 0xBA, 0xD2, 0xE1, 0xEA, 0x12F, 0x1A1, 0x1AD, 0x1B6];
 
-// Fields 1 to 8.
-const FIELDS: [i64; 8] = [17, -5, 2097152, 1900000, 1000, 3, 10, 2];
+// Fields 1 to 8; with these gains some samples are clipped.
+const FIELDS: [i64; 8] = [17, -5, 2200000, 2150000, 1000, 3, 10, 2];
 
 // How often the block is fed: a number of at most nine digits. Without one, 100.
 fn times(text: &[u8]) -> u64 {
@@ -105,6 +105,11 @@ fn print_value(x: i64) {
     io::print_decimal(STDOUT_FILENO, number::size(x));
 }
 
+fn print_count(n: u32) {
+    io::write_all(STDOUT_FILENO, b" ");
+    io::print_decimal(STDOUT_FILENO, n as u64);
+}
+
 // A register's value; 0 if the read is refused.
 fn told(s: Looked) -> i64 {
     let answer = s.answer;
@@ -123,7 +128,7 @@ fn print_registers(held: Module) {
     }
 }
 
-// The registers and the interval's number; without any block, why there are none.
+// The registers, the interval's number and its counts of clipped samples; without any block, why there are none.
 fn print_held(m: Module) {
     let h = m.hold(0);
     let answer = h.answer;
@@ -133,6 +138,8 @@ fn print_held(m: Module) {
     } else {
         print_registers(h.after);
         io::print_decimal(STDOUT_FILENO, h.number as u64);
+        print_count(h.clips.v);
+        print_count(h.clips.i);
     }
     io::write_all(STDOUT_FILENO, b"\n");
 }
