@@ -1,14 +1,14 @@
 -- The day at a site, computed: the sequence shortens as said, and both sequences close the same intervals, tell the same and leave the same module.
 use mathlib.Core.Path.{refl}
-use Rattle.range.specs.Range.{in24, clipped, heldWithin}
+use Rattle.range.specs.Range.{in24, outside24, clipped, heldWithin}
 use Rattle.number.specs.Sign.{withSign, lessened}
 use Rattle.number.specs.Rounding.{floorDiv, towardZero}
 use Rattle.root.specs.Root.{rootOf, rootBy}
 use Rattle.serial.specs.Every.{every}
 use Rattle.serial.specs.Serials.{digitsOk, isSerial, padded, serialOf}
 use Rattle.card.specs.Fields.{lows, highs, fitsField, isField, fieldInRange}
-use Rattle.sample.specs.Sample.{every24, corrected, mixed, voltage, current, phased}
-use Rattle.sample.specs.Sums.{joined, previous, summed, samplesIn, added, emptied, ofAtMost, phaseInRange}
+use Rattle.sample.specs.Sample.{every24, scaled, corrected, wasClipped, mixed, voltage, current, phased, voltageClipped, currentClipped}
+use Rattle.sample.specs.Sums.{joined, counted, previous, summed, samplesIn, added, emptied, ofAtMost, phaseInRange}
 use Rattle.rules.specs.Rules.{rms, belowSquelch, activeOf, apparentOf, factorOf, crestOf}
 use Rattle.rules.specs.Source.{vrmsOf, currentRoot, isSquelched, irmsOf, wattOf, ipeakOf, six, figuresOf}
 use Rattle.energy.specs.Energies.{advanced, joinedBy, plusAfter, minusAfter}
@@ -26,7 +26,7 @@ use Rattle.aberzhan.specs.Module.{portAt, freshModule, startOf, openOf, writeOf
 use Rattle.demands.specs.Day.{DayIsSo}
 
 pub day-is-so : DayIsSo
-unfolding startOf meterStart numbersOk everySlot slotOk placeOf position trackable freshOf freshModule portAt opening writing isSerial digitsOk every serialOf padded emptyCard withField isField fieldInRange fitsField lows highs finished allWritten cardOn discarded copied copyOf look registerOf byteOf words untracked slotOff registers samplesOf every24 in24 samplesIn added summed joined previous voltage phased current corrected mixed clipped heldWithin floorDiv closedWork lastOf closedOf numberAfter registersAfter vrmsOf rms rootOf rootBy sourceAfter figuresOf six currentRoot isSquelched irmsOf belowSquelch wattOf ipeakOf activeOf towardZero withSign lessened apparentOf factorOf crestOf plusAfter minusAfter joinedBy advanced sevenOf followed tracked further lowest highest emptied openOf writeOf commitOf dropOf holdOf readOf blockOf meterBlock waitOf nextCard soundOf ofAtMost phaseInRange
+unfolding startOf meterStart numbersOk everySlot slotOk placeOf position trackable freshOf freshModule portAt opening writing isSerial digitsOk every serialOf padded emptyCard withField isField fieldInRange fitsField lows highs finished allWritten cardOn discarded copied copyOf look registerOf byteOf words untracked slotOff registers samplesOf every24 in24 samplesIn added summed joined counted previous voltage phased current voltageClipped currentClipped scaled corrected wasClipped mixed outside24 clipped heldWithin floorDiv closedWork lastOf closedOf numberAfter registersAfter vrmsOf rms rootOf rootBy sourceAfter figuresOf six currentRoot isSquelched irmsOf belowSquelch wattOf ipeakOf activeOf towardZero withSign lessened apparentOf factorOf crestOf plusAfter minusAfter joinedBy advanced sevenOf followed tracked further lowest highest emptied openOf writeOf commitOf dropOf holdOf readOf blockOf meterBlock waitOf nextCard soundOf ofAtMost phaseInRange
 day-is-so = record {
   shortens = refl;
   refuses = (refl, refl);

@@ -1,4 +1,4 @@
--- Roots, squelching, numbers, minima and maxima of every closed interval.
+-- Roots, squelching, clipped samples, numbers, minima and maxima of every closed interval.
 use mathlib.Core.Path.{sym, subst}
 use mathlib.Core.Bool.{Bool, true, false}
 use mathlib.Core.List.{List, [], _∷_}
@@ -14,8 +14,10 @@ use Rattle.interval.specs.Close.{noneClosed}
 use Rattle.interval.specs.History.{ClosedInTurn}
 use Rattle.interval.specs.Rms.{RmsOf}
 use Rattle.interval.specs.NoLoad.{SquelchedBy}
+use Rattle.interval.specs.Clipping.{ClippedBy}
 use Rattle.interval.proofs.Rms.{interval-rms}
 use Rattle.interval.proofs.NoLoad.{squelched-by}
+use Rattle.interval.proofs.Clipping.{clipped-by}
 use Rattle.interval.proofs.Histories.{whole-next, closes-followed}
 use Rattle.meter.specs.Core.{core}
 use Rattle.demands.specs.Program.{settings, closes}
@@ -50,5 +52,8 @@ every-close p =
           let P : Saying = λ c before xs old z. RmsOf c before xs z in
           subst (Each P none noneClosed is) e (each t P (λ fst. interval-rms fst t) is true none noneClosed);
       squelching = subst (Each SquelchedBy none noneClosed is) e (each t SquelchedBy (λ fst. squelched-by fst t) is true none noneClosed);
+      clipping =
+          let P : Saying = λ c before xs old z. ClippedBy c xs z in
+          subst (Each P none noneClosed is) e (each t P (λ fst. clipped-by fst t) is true none noneClosed);
       followed = closes-followed t (closes p) (subst (ClosedInTurn t true noneClosed) e (in-turn t is true none noneClosed));
     }

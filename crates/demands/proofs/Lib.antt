@@ -6,4 +6,5 @@ pub mod Cuts
 pub mod Wholes
 pub mod Energy
 pub mod History
+pub mod Holds
 pub mod Day

@@ -1,5 +1,5 @@
 -- A day at a site, worked through with the module itself: a program of calls by both ports and the sample feed, its shorter sequence, and what
--- comes of both: a card dropped, one replaced before any sample, a field written twice, a card still open in the evening. `proofs/Day.antt`
+-- comes of both: a card dropped, one replaced before any sample, a field written twice, a clipped sample, a card still open in the evening. `proofs/Day.antt`
 -- computes it. N is 2, the bucket 100; slot 1 tracks VA_RMS, the others are off.
 use Prim.Native.Nat.{ℕ, suc}
 use mathlib.Core.Path.{_≡_}
@@ -18,6 +18,7 @@ use Rattle.serial.specs.declared.Serial.{Serial}
 use Rattle.card.specs.declared.Card.{Card}
 use Rattle.address.specs.declared.WordAddr.{WordAddr}
 use Rattle.address.specs.declared.ByteAddr.{ByteAddr}
+use Rattle.sample.specs.Sums.{noClips}
 use Rattle.energy.specs.declared.Energy.{Energy}
 use Rattle.interval.specs.declared.Closed.{Closed}
 use Rattle.address.specs.Slots.{off}
@@ -79,6 +80,10 @@ half = pos 4194304
 abbrev pub quarter : ℤ
 quarter = pos 2097152
 
+-- a current of -4,194,305, which card 601 brings beyond the range
+abbrev pub tooMuch : ℤ
+tooMuch = negsuc 4194304
+
 abbrev pub track : List WordAddr
 track = record { 0 = 0x2B } ∷ replicate 5 off
 
@@ -111,7 +116,7 @@ day =
     ∷ writes panel (cardEdits t601 4194304)
     ++ (callRead panel (byte 0xE1)
     ∷ callCommit panel  -- card 601 replaces 600, which no sample met
-    ∷ callBlock (quarter ∷ half ∷ half ∷ []) (pos 60 ∷ negsuc 59 ∷ negsuc 59 ∷ [])  -- closes interval 2, still with card 0417, and interval 3 with card 601
+    ∷ callBlock (quarter ∷ half ∷ half ∷ []) (pos 60 ∷ negsuc 59 ∷ tooMuch ∷ [])  -- closes interval 2, still with card 0417, and interval 3 with card 601
     ∷ callRead fitter (byte 0x1AD)  -- as it was at the fitter's hold
     ∷ callRead fitter (byte 0x154)  -- refused, 16
     ∷ callRead fitter (byte 0x156)  -- refused, 17: slot 2 is off
@@ -139,7 +144,7 @@ shorterDay =
     ∷ at1 (hold tt) ∷ at1 (read (byte 0xE1))
     ∷ card port0 (cardEdits t600 1)
     ∷ card port1 (cardEdits t601 4194304)
-    ∷ plain (block (quarter ∷ half ∷ half ∷ [], pos 60 ∷ negsuc 59 ∷ negsuc 59 ∷ []))
+    ∷ plain (block (quarter ∷ half ∷ half ∷ [], pos 60 ∷ negsuc 59 ∷ tooMuch ∷ []))
     ∷ at1 (hold tt) ∷ at1 (read (byte 0x1B6)) ∷ at1 (read (byte 0x153))
     ∷ at0 (edit (openWith t600))
     ∷ plain (block (half ∷ [], pos 60 ∷ []))
@@ -165,6 +170,7 @@ abbrev pub interval1 : Closed
 interval1 = record {
   number = 1;
   serial = s0417;
+  clips = noClips;
   regs = record {
     vrms = half;
     a = record { figures = pos 60 ∷ pos 60 ∷ pos 30 ∷ pos 30 ∷ pos 4194304 ∷ pos 65536 ∷ []; plus = energy 0 60; minus = energy 0 0 };
@@ -177,6 +183,7 @@ abbrev pub interval2 : Closed
 interval2 = record {
   number = 2;
   serial = s0417;
+  clips = noClips;
   regs = record {
     vrms = pos 3315888;
     a = record { figures = pos 60 ∷ pos 60 ∷ pos 22 ∷ pos 23 ∷ pos 4011942 ∷ pos 65536 ∷ []; plus = energy 1 4; minus = energy 0 0 };
@@ -184,14 +191,20 @@ interval2 = record {
   };
 }
 
--- the current is doubled by card 601 and turned round: P is -60, and 120 is one bucket and 20 of the other direction
+-- the current is doubled by card 601 and turned round, -120 and -8,388,610, which is clipped to -8,388,608: P is -2,097,182, and 4,194,364 is
+-- 41,943 buckets and 64 of the other direction
 abbrev pub interval3 : Closed
 interval3 = record {
   number = 3;
   serial = s601;
+  clips = record { v = 0; i = 1 };
   regs = record {
     vrms = half;
-    a = record { figures = pos 120 ∷ pos 120 ∷ negsuc 59 ∷ pos 60 ∷ negsuc 4194303 ∷ pos 65536 ∷ []; plus = energy 1 4; minus = energy 1 20 };
+    a = record {
+      figures = pos 5931641 ∷ pos 8388607 ∷ negsuc 2097181 ∷ pos 2965820 ∷ negsuc 2965863 ∷ pos 92681 ∷ [];
+      plus = energy 1 4;
+      minus = energy 41943 64;
+    };
     ends = record { low = slot1 3315888; high = slot1 4194304 };
   };
 }
@@ -201,10 +214,10 @@ dayClosed = interval1 ∷ interval2 ∷ interval3 ∷ []
 
 abbrev pub dayHeard : PerPort (List (Op aberzhan × Value))
 dayHeard = record {
-  on0 = (hold tt, interval 1 s0417) ∷ (read (byte 0x1AD), register (pos 0)) ∷ [];
+  on0 = (hold tt, interval 1 s0417 noClips) ∷ (read (byte 0x1AD), register (pos 0)) ∷ [];
   on1 =
-      (hold tt, interval 1 s0417) ∷ (read (byte 0xE1), register (pos 30))
-      ∷ (hold tt, interval 3 s601) ∷ (read (byte 0x1B6), register (pos 1)) ∷ (read (byte 0x153), register (pos 3315888)) ∷ [];
+      (hold tt, interval 1 s0417 noClips) ∷ (read (byte 0xE1), register (pos 30))
+      ∷ (hold tt, interval 3 s601 (record { v = 0; i = 1 })) ∷ (read (byte 0x1B6), register (pos 41943)) ∷ (read (byte 0x153), register (pos 3315888)) ∷ [];
 }
 
 abbrev pub card601 : Card
@@ -215,7 +228,7 @@ abbrev pub dayIntervals : List (Interval core)
 dayIntervals =
     record { card = record { serial = s0417; fields = fieldsOf 2097152 }; samples = (half, pos 60) ∷ (half, pos 60) ∷ [] }
     ∷ record { card = record { serial = s0417; fields = fieldsOf 2097152 }; samples = (half, pos 60) ∷ (quarter, pos 60) ∷ [] }
-    ∷ record { card = card601; samples = (half, negsuc 59) ∷ (half, negsuc 59) ∷ [] }
+    ∷ record { card = card601; samples = (half, negsuc 59) ∷ (half, tooMuch) ∷ [] }
     ∷ []
 
 -- the module in the evening, one sample into interval 4
@@ -229,7 +242,7 @@ evening = record {
     taken = 1;
     work = record {
       settings = record { n = 2; b = 100; track = track };
-      sums = record { vv = 17592186044416; flow = record { ii = 14400; vi = pos 503316480; peak = 120 }; seen = true; raw = pos 60 };
+      sums = record { vv = 17592186044416; flow = record { ii = 14400; vi = pos 503316480; peak = 120 }; clips = noClips; seen = true; raw = pos 60 };
       any = true;
       last = interval3;
     };
@@ -260,4 +273,4 @@ pub record DayIsSo : Type 0 where
   -- the rule, from the history alone: each interval has the card that was committed last before its first sample
   pub cuts : cutBy 2 (tagged core ports none (runOf aberzhan methods site day .history)) ≡ dayIntervals
   -- and the energy rule over them
-  pub counts : (plusOver (site .meter .work .settings) dayClosed ≡ energy 1 4) × (minusOver (site .meter .work .settings) dayClosed ≡ energy 1 20)
+  pub counts : (plusOver (site .meter .work .settings) dayClosed ≡ energy 1 4) × (minusOver (site .meter .work .settings) dayClosed ≡ energy 41943 64)

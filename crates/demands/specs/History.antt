@@ -1,5 +1,6 @@
 -- Of every closed interval of every program: VRMS and IRMS are roots of its mean squares; its root and its card's SQUELCH alone decide whether it is
--- squelched, and no energy comes of it then; its number counts the closes; minima and maxima are those of all that closed so far.
+-- squelched, and no energy comes of it then; its counts are of its own clipped samples; its number counts the closes; minima and maxima are those of all
+-- that closed so far.
 use mathlib.Core.List.{List, [], _∷_}
 use mathlib.Core.Option.{Option, none, some}
 use lib.IntN.{ℤ}
@@ -11,6 +12,7 @@ use Rattle.interval.specs.Whole.{lastRaw}
 use Rattle.interval.specs.Close.{noneClosed}
 use Rattle.interval.specs.Rms.{RmsOf}
 use Rattle.interval.specs.NoLoad.{SquelchedBy}
+use Rattle.interval.specs.Clipping.{ClippedBy}
 use Rattle.interval.specs.History.{EachFollowed}
 use Rattle.meter.specs.Core.{core}
 use Rattle.demands.specs.Program.{Program, settings, closes}
@@ -32,6 +34,7 @@ Each P r old (i ∷ is) (z ∷ zs) =
 pub record ProgramHistory (p : Program) : Type 0 where
   pub roots : Each (λ c before xs old z. RmsOf c before xs z) none noneClosed (intervalsOf p) (closes p)
   pub squelching : Each SquelchedBy none noneClosed (intervalsOf p) (closes p)
+  pub clipping : Each (λ c before xs old z. ClippedBy c xs z) none noneClosed (intervalsOf p) (closes p)
   pub followed : EachFollowed (settings p) (closes p)
 
 abbrev pub EveryClose : Type 0

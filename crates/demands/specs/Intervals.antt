@@ -1,4 +1,4 @@
--- Each closed interval is what documents 01 and 02 (A1) work out from its card, its own N samples and the raw current before its first.
+-- Each closed interval is what documents 01 and 02 (A1, A2) work out from its card, its own N samples and the raw current before its first.
 use Prim.Native.Nat.{ℕ, zero, suc, _/_}
 use mathlib.Core.Path.{_≡_}
 use mathlib.Core.Bool.{Bool, true, false}
