@@ -41,30 +41,3 @@ mixed-in p x y h hx hy =
     rw rest (floor4096 (pos (4096 - p) *ℤ x +ℤ pos p *ℤ y)
     (omega (arith, s, tx, ty, mul-le-mul-left (4096 - p) (ends x hx .0), mul-le-mul-left p (ends y hy .0)))
     (omega (arith, s, tx, ty, mul-le-mul-left (4096 - p) (ends x hx .1), mul-le-mul-left p (ends y hy .1))))
-
--- ---- no step of the mix is beyond an i64
-weight : {p : ℕ} → Fits w16 p → Size (pos p) 65535
-weight h = size-nat (omega arith)
-
-rest : {p : ℕ} → Fits w16 p → Size (pos 4096 -ℤ pos p) (4096 + 65535)
-rest h = size-sub (size-nat (le-refl 4096)) (weight h)
-
-pub read16 : (p : ℕ) → Fits w16 p → toZ w64 p ≡ pos p
-read16 p h = toZ-pos w64 (omega arith)
-
-pub weight-fits : {p : ℕ} → Fits w16 p → SFits w64 (pos p)
-weight-fits h = size-fits (weight h) tt
-
-pub rest-fits : {p : ℕ} → Fits w16 p → SFits w64 (pos 4096 -ℤ pos p)
-rest-fits h = size-fits (rest h) tt
-
-pub now-fits : {p : ℕ} {x : ℤ} → Fits w16 p → SFits w32 x → SFits w64 ((pos 4096 -ℤ pos p) *ℤ x)
-now-fits h k = size-fits (size-mul (rest h) (size-of k)) tt
-
-pub previous-fits : {p : ℕ} {x : ℤ} → Fits w16 p → SFits w32 x → SFits w64 (pos p *ℤ x)
-previous-fits h k = size-fits (size-mul (weight h) (size-of k)) tt
-
-pub mix-fits : {p : ℕ} {x y : ℤ} → Fits w16 p → SFits w32 x → SFits w32 y → SFits w64 ((pos 4096 -ℤ pos p) *ℤ x +ℤ pos p *ℤ y)
-mix-fits h k l = size-fits (size-add (size-mul (rest h) (size-of k)) (size-mul (weight h) (size-of l))) tt
-
-pub ruleset mixing = (ranges, read16, weight-fits, rest-fits, now-fits, previous-fits, mix-fits)

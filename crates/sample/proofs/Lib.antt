@@ -1,5 +1,6 @@
 -- Laws of samples.
 pub mod Corrections
+pub mod Mixing
 pub mod Ranges
 pub mod Rooms
 pub mod Slices

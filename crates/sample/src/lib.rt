@@ -22,12 +22,12 @@ pub fn correct(raw: i32, offset: i32, gain: i32) -> Corrected
     }
 }
 
-// ((4,096 - phase) times now + phase times previous) / 4,096, rounded down.
+// ((4,096 - phase) times now + phase times previous) / 4,096, rounded down: now comes out of the division whole, and one product is left.
 pub fn mix(phase: u16, now: i32, previous: i32) -> i64
     ensures { λ r. ⌜ r ≡ mixed phase now previous ⌝ }
 {
-    let p = phase as i64;
-    number::floor_div((4096 - p) * now as i64 + p * previous as i64, 12)
+    let x = now as i64;
+    x + number::floor_div(phase as i64 * (previous as i64 - x), 12)
 }
 
 // Whether every sample is in the 24-bit range. No branch a sample: a machine can test several at once.
