@@ -3,8 +3,6 @@ use mathlib.Core.Path.{refl, sym, _∙_}
 use Rattle.promise.specs.Determined.{Decided}
 use Rattle.range.proofs.in_range.Kinds as in-range-k
 use Rattle.range.proofs.in_range.Reads as in-range
-use Rattle.range.proofs.outside.Kinds as outside-k
-use Rattle.range.proofs.outside.Reads as outside
 use Rattle.range.proofs.held_within.Kinds as held-within-k
 use Rattle.range.proofs.held_within.Reads as held-within
 use Rattle.range.proofs.clip.Kinds as clip-k
@@ -14,9 +12,6 @@ use Rattle.range.proofs.cap.Reads as cap
 
 pub in-range-decided : Decided 0 in-range-k.ps in-range-k.r in-range.Pre in-range.Post
 in-range-decided = record { always = λ κs a. tt; determined = λ κs a p z z′ ws ws′ q q′. (q ∙ sym q′, refl) }
-
-pub outside-decided : Decided 0 outside-k.ps outside-k.r outside.Pre outside.Post
-outside-decided = record { always = λ κs a. tt; determined = λ κs a p z z′ ws ws′ q q′. (q ∙ sym q′, refl) }
 
 pub held-within-decided : Decided 0 held-within-k.ps held-within-k.r held-within.Pre held-within.Post
 held-within-decided = record { always = λ κs a. tt; determined = λ κs a p z z′ ws ws′ q q′. (q ∙ sym q′, refl) }

@@ -1,18 +1,19 @@
 -- The 24-bit range: a clipped number is in it, a number in it is its own clip, and what clipping does to both signs.
-use mathlib.Core.Path.{_≡_, refl, _∙_}
-use mathlib.Core.Bool.{Bool, true, false, not, cond, _&&_, _||_, false≢true}
+use mathlib.Core.Path.{_≡_, refl, sym, ap, subst, _∙_}
+use mathlib.Core.Bool.{Bool, true, false, not, cond, _&&_, false≢true}
 use mathlib.Core.Logic.{inl, inr}
 use Prim.Native.Nat.{ℕ, _<_, min}
 use native.Mathlib.Omega.{arith}
 use lib.IntN.{ℤ, pos, negsuc}
-use lib.Dec.{leb, ltb}
+use lib.Dec.{leb, eqb, lt→ltb}
 use lib.Signed.{mag, ltZ, leZ, clashℤ}
-use borrow.Author.Tests.{leb-true, leb-false, le-ltb, lt-ltb, not-false}
-use mir.Syntax.{w32}
-use mir.Val.{SFits}
+use borrow.Author.Tests.{leb-false, eq-eqb, ne-eqb, not-true, not-false}
+use mir.Syntax.{w32, w64}
+use mir.Val.{SFits, toZ, ofZ}
+use mir.Facts.{toZ-ofZ}
 use Rattle.range.specs.Range.{low, high, in24, outside24, heldWithin, clipped, capped, InRange, Outside}
 use Rattle.number.proofs.Signed.{up, dn, norm, signs, cond-is, ltZ-true, ltZ-false, le-in, le-out}
-use Rattle.number.proofs.Fits.{Size}
+use Rattle.number.proofs.Fits.{Size, widen}
 
 -- a number held within two ends is one of the three
 pub held-is : (lo hi z : ℤ) (P : ℤ → Type 0) → (ltZ z lo ≡ true → P lo) → (ltZ z lo ≡ false → ltZ hi z ≡ true → P hi) → (ltZ z lo ≡ false → ltZ hi z ≡ false → P z) → P (heldWithin lo hi z)
@@ -66,30 +67,15 @@ in24-in z e = go (leZ low z) (leZ z high) refl refl e
     go true false p q e = absurd (false≢true e)
     go false b p q e = absurd (false≢true e)
 
--- and so does the other: a number outside is beyond an end
-flip : (a b : ℕ) → ltb b a ≡ not (leb a b)
-flip a b = by (leb a b) refl
-  where
-    by : (t : Bool) → leb a b ≡ t → ltb b a ≡ not t
-    by true e = le-ltb b a (leb-true a b e)
-    by false e = lt-ltb b a (leb-false a b e)
-
-pub outside-by : (z : ℤ) → ltZ z low || ltZ high z ≡ outside24 z
-unfolding outside24 in24
-outside-by (pos n) = flip n 8388607
-outside-by (negsuc n) = go (leb n 8388607) refl
-  where
-    go : (t : Bool) → leb n 8388607 ≡ t → ltb 8388607 n || false ≡ not (leb n 8388607 && true)
-    go true e = rw (flip n 8388607, e)
-    go false e = rw (flip n 8388607, e)
-
+-- a number outside it is beyond an end
 pub outside-yes : (z : ℤ) → outside24 z ≡ true → Outside z
-outside-yes z e = go (ltZ z low) (ltZ high z) refl refl (outside-by z ∙ e)
+unfolding outside24 in24
+outside-yes (pos n) e = inr (record { lt = lt→ltb 8388607 n (leb-false n 8388607 (not-true (leb n 8388607) e)) })
+outside-yes (negsuc n) e = inl (record { lt = lt→ltb 8388607 n (leb-false n 8388607 (left (leb n 8388607) (not-true (leb n 8388607 && true) e))) })
   where
-    go : (a b : Bool) → ltZ z low ≡ a → ltZ high z ≡ b → a || b ≡ true → Outside z
-    go true b p q e = inl (record { lt = rw p tt })
-    go false true p q e = inr (record { lt = rw q tt })
-    go false false p q e = absurd (false≢true e)
+    left : (b : Bool) → b && true ≡ false → b ≡ false
+    left true e = e
+    left false e = refl
 
 pub outside-no : (z : ℤ) → outside24 z ≡ false → InRange z
 unfolding outside24
@@ -105,3 +91,14 @@ in-fits {z} h = record { sfits = omega (arith, mag-in z h) }
 pub size24 : (z : ℤ) → mag z < 8388608 → Size z 8388608
 size24 (pos a) h = omega arith
 size24 (negsuc a) h = omega arith
+
+-- clipping changes just the numbers outside; the machine sees it by comparing the two words
+outside-moves : (z : ℤ) → Outside z → clipped z ≡ z → ⊥
+outside-moves z h e = not-both z (subst InRange e (clipped-in z)) h
+
+pub outside-test : (z : ℤ) → SFits w64 z → not (eqb (ofZ w64 (clipped z)) (ofZ w64 z)) ≡ outside24 z
+outside-test z h = by (outside24 z) refl
+  where
+    by : (b : Bool) → outside24 z ≡ b → not (eqb (ofZ w64 (clipped z)) (ofZ w64 z)) ≡ b
+    by true e = ap not (ne-eqb (ofZ w64 (clipped z)) (ofZ w64 z) (λ w. outside-moves z (outside-yes z e) (sym (toZ-ofZ (widen (in-fits (clipped-in z)))) ∙ ap (toZ w64) w ∙ toZ-ofZ h)))
+    by false e = ap not (eq-eqb (ofZ w64 (clipped z)) (ofZ w64 z) (ap (ofZ w64) (clipped-own z (outside-no z e))))

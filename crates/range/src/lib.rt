@@ -1,19 +1,12 @@
 // The 24-bit range, and clipping.
 ghost use mathlib.Core.Path.{_≡_};
-ghost use Rattle.range.specs.Range.{in24, outside24, heldWithin, clipped, capped};
+ghost use Rattle.range.specs.Range.{in24, heldWithin, clipped, capped};
 
 // Whether x is in the 24-bit range.
 pub fn in_range(x: i32) -> bool
     ensures { λ r. ⌜ r ≡ in24 x ⌝ }
 {
     (-8388608 <= x) & (x <= 8388607)
-}
-
-// Whether x is outside the 24-bit range.
-pub fn outside(x: i64) -> bool
-    ensures { λ r. ⌜ r ≡ outside24 x ⌝ }
-{
-    (x < -8388608) | (8388607 < x)
 }
 
 // x held within lo and hi.

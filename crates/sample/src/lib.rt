@@ -16,9 +16,10 @@ pub fn correct(raw: i32, offset: i32, gain: i32) -> Corrected
     ensures { λ r. ⌜ r ≡ correction raw offset gain ⌝ }
 {
     let x = number::floor_div((raw as i64 - offset as i64) * gain as i64, 21);
+    let value = range::clip(x);
     Corrected {
-        value: range::clip(x),
-        clipped: range::outside(x),
+        value,
+        clipped: value as i64 != x,
     }
 }
 
