@@ -1,3 +1,4 @@
 -- Laws of the samples' loop.
 pub mod Probes
+pub mod Tallies
 pub mod Decided

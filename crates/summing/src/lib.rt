@@ -1,13 +1,13 @@
 // The samples' loop, on the sums alone: what the card does to a sample is taken out of it once.
 ghost use mathlib.Core.Path.{_≡_};
-ghost use Prim.Native.Nat.{_≤_, _<_};
+ghost use Prim.Native.Nat.{_*_, _≤_, _<_};
 ghost use lib.IntN.{pos};
 ghost use lib.Signed.{mag};
 ghost use lib.ListN.{length, getD};
 ghost use Rattle.sample.specs.Sample.{corrected, wasClipped, mixed};
-ghost use Rattle.sample.specs.Sums.{joined, counted, summed, previous, samplesIn, addedAll, withSamples};
-ghost use Rattle.sample.specs.Inside.{Flowing, Few, Room, Spare, Phased};
-ghost use Rattle.summing.specs.Inside.{probeOf, probedAll};
+ghost use Rattle.sample.specs.Sums.{joined, previous, samplesIn, addedAll, withSamples};
+ghost use Rattle.sample.specs.Inside.{Flowing, Spare, Phased};
+ghost use Rattle.summing.specs.Inside.{probeOf, probedAll, tallyOf, tallied, oneMore, joinedTo, Small};
 use card::Card;
 use card::names::IGAIN;
 use card::names::IOFFS;
@@ -63,43 +63,73 @@ fn join(f: Flow, v: i32, i: i32) -> Flow
     }
 }
 
-// Whether a sample's voltage, and its current, was clipped joins the counts; no branch.
-fn count(k: Clips, v: bool, i: bool) -> Clips
-    requires { ⌜ Few k 4096 ⌝ }
-    ensures { λ r. ⌜ r ≡ counted k v i ⌝ }
+// What the loop adds up: as the sums, but both counts stand in one number, that of the currents from 2^32 on, since the machine has few
+// registers; and the raw current is left to the end.
+pub struct Tally {
+    pub vv: u64,
+    pub flow: Flow,
+    pub clips: u64,
+}
+
+fn tally_of(s: Sums) -> Tally
+    ensures { λ r. ⌜ r ≡ tallyOf s ⌝ }
 {
-    Clips {
-        v: k.v + v as u32,
-        i: k.i + i as u32,
+    let flow = s.flow;
+    Tally {
+        vv: s.vv,
+        flow,
+        clips: s.clips.v as u64 + s.clips.i as u64 * 4294967296,
     }
+}
+
+// The sums s after the loop, which has left its tally; raw is the raw current of the last sample.
+fn sums_after(mut s: Sums, t: Tally, raw: i32) -> Sums
+    ensures { λ r. ⌜ r ≡ tallied t raw ⌝ }
+{
+    let flow = t.flow;
+    let clips = Clips {
+        v: (t.clips % 4294967296) as u32,
+        i: (t.clips / 4294967296) as u32,
+    };
+    s.vv = t.vv;
+    s.flow = flow;
+    s.clips = clips;
+    s.seen = true;
+    s.raw = raw;
+    s
+}
+
+// Whether a sample's voltage, and its current, was clipped is counted without a branch.
+fn count(n: u64, v: bool, i: bool) -> u64
+    requires { ⌜ n ≤ 4096 * 4294967297 ⌝ }
+    ensures { λ r. ⌜ r ≡ oneMore n v i ⌝ }
+{
+    n + v as u64 + i as u64 * 4294967296
 }
 
 // v the corrected voltage, i the current corrected and mixed, and whether it was clipped before it was mixed.
-fn add(s: Sums, v: Corrected, i: i32, clipped: bool, raw: i32) -> Sums
-    requires { ⌜ Room s 4096 × (mag (v .value) < 8388608) × (mag i < 8388608) ⌝ }
-    ensures { λ r. ⌜ r ≡ summed s (v .value) i (v .clipped) clipped raw ⌝ }
+fn add(t: Tally, v: Corrected, i: i32, clipped: bool) -> Tally
+    requires { ⌜ Small t × (mag (v .value) < 8388608) × (mag i < 8388608) ⌝ }
+    ensures { λ r. ⌜ r ≡ joinedTo t (v .value) i (v .clipped) clipped ⌝ }
 {
-    let f = s.flow;
+    let f = t.flow;
     let flow = join(f, v.value, i);
-    let k = s.clips;
-    let clips = count(k, v.clipped, clipped);
-    Sums {
-        vv: s.vv + number::square(v.value),
+    let clips = count(t.clips, v.clipped, clipped);
+    Tally {
+        vv: t.vv + number::square(v.value),
         flow,
         clips,
-        seen: true,
-        raw,
     }
 }
 
-// One sample more: v the raw voltage, now and old the corrected currents, raw the raw current. Old was counted with its own sample.
-fn take(s: Sums, p: Probe, v: i32, now: Corrected, old: i32, raw: i32) -> Sums
-    requires { ⌜ Room s 4096 × (p .phase ≤ 4095) × (mag (now .value) < 8388608) × (mag old < 8388608) ⌝ }
-    ensures { λ r. ⌜ r ≡ summed s (corrected v (p .voffs) (p .vgain)) (mixed (p .phase) (now .value) old) (wasClipped v (p .voffs) (p .vgain)) (now .clipped) raw ⌝ }
+// One sample more: v the raw voltage, now and old the corrected currents. Old was counted with its own sample.
+fn take(t: Tally, p: Probe, v: i32, now: Corrected, old: i32) -> Tally
+    requires { ⌜ Small t × (p .phase ≤ 4095) × (mag (now .value) < 8388608) × (mag old < 8388608) ⌝ }
+    ensures { λ r. ⌜ r ≡ joinedTo t (corrected v (p .voffs) (p .vgain)) (mixed (p .phase) (now .value) old) (wasClipped v (p .voffs) (p .vgain)) (now .clipped) ⌝ }
 {
     let cv = correct(v, p.voffs, p.vgain);
     let m = mix(p.phase, now.value, old);
-    add(s, cv, m as i32, now.clipped, raw)
+    add(t, cv, m as i32, now.clipped)
 }
 
 // The corrected current before a sample whose raw current is raw.
@@ -116,21 +146,20 @@ fn corrected_before(s: Sums, p: Probe, raw: i32) -> i32
 
 // The samples of two slices, one after another; first is the corrected current before the first of them.
 fn run_with(s0: Sums, p: Probe, first: i32, v: &[i32], i: &[i32]) -> Sums
-    requires { ⌜ (p .phase ≤ 4095) × Spare s0 (length (now v)) × (length (now v) ≡ length (now i)) ⌝ }
+    requires { ⌜ (p .phase ≤ 4095) × Spare s0 (length (now v)) × (length (now v) ≡ length (now i)) × (0 < length (now v)) ⌝ }
     requires { ⌜ first ≡ corrected (previous s0 (getD (now i) 0 (pos 0))) (p .ioffs) (p .igain) ⌝ }
     ensures { λ r. ⌜ r ≡ probedAll p s0 (samplesIn (now (v .entry)) (now (i .entry))) ⌝ }
 {
     let mut old = first;
-    let mut s = s0;
+    let mut t = tally_of(s0);
     let mut k: usize = 0;
     while k < v.len() {
-        let raw = i[k];
-        let now = correct(raw, p.ioffs, p.igain);
-        s = take(s, p, v[k], now, old, raw);
+        let now = correct(i[k], p.ioffs, p.igain);
+        t = take(t, p, v[k], now, old);
         old = now.value;
         k += 1;
     }
-    s
+    sums_after(s0, t, i[v.len() - 1])
 }
 
 // The samples of two slices, one after another.

@@ -4,7 +4,8 @@ use native.Mathlib.Omega.{arith}
 use mathlib.Core.Path.{_≡_, refl}
 use mathlib.Core.Bool.{Bool, true, false}
 use mir.Val.{boolByte}
-use Rattle.sample.specs.Sums.{oneIf, counted}
+use Rattle.sample.specs.Sums.{oneIf}
+use Rattle.summing.specs.Inside.{oneMore}
 use borrow.Author.Needs.{needs}
 use Rattle.summing.proofs.count.Statement.{statement}
 use Rattle.summing.proofs.count.Tie as tie
@@ -18,21 +19,24 @@ byte-most : (b : Bool) → boolByte b ≤ 1
 byte-most true = omega arith
 byte-most false = omega arith
 
-cast-t4 : tie.Need-cast-t4
-cast-t4 c = search needs
+cast-result : tie.Need-cast-result
+cast-result c = search needs
 
-add-t5 : tie.Need-add-t5
-add-t5 c = record { fits = omega (arith, c .before .pre .v, byte-most (c .before .args .v)) }
+add-result : tie.Need-add-result
+add-result c = record { fits = omega (arith, c .pre, byte-most (c .args .v)) }
 
-cast-t6 : tie.Need-cast-t6
-cast-t6 c = search needs
+cast-result-2 : tie.Need-cast-result-2
+cast-result-2 c = search needs
 
-add-t7 : tie.Need-add-t7
-add-t7 c = record { fits = omega (arith, c .before .before .pre .i, byte-most (c .before .before .args .i)) }
+mul-result : tie.Need-mul-result
+mul-result c = record { fits = omega (arith, byte-most (c .args .i)) }
+
+add-result-2 : tie.Need-add-result-2
+add-result-2 c = record { fits = omega (arith, c .pre, byte-most (c .args .v), byte-most (c .args .i)) }
 
 returns : tie.Need-returns
-unfolding counted
-returns c = let a = c .before .before .args in rw (byte-is (a .v), byte-is (a .i))
+unfolding oneMore
+returns c = rw (byte-is (c .args .v), byte-is (c .args .i))
 
 pub count-spec : {M : Type 1} → statement M
-count-spec = tie.close (tie.spec cast-t4 add-t5 cast-t6 add-t7 returns)
+count-spec = tie.close (tie.spec cast-result add-result cast-result-2 mul-result add-result-2 returns)

@@ -2,7 +2,9 @@
 use mathlib.Core.Path.{sym, ap, _∙_}
 use denote.Ref.{now}
 use lib.IntN.{pos}
-use lib.ListN.{getD}
+use native.Mathlib.Omega.{arith}
+use Prim.Native.Nat.{_<_}
+use lib.ListN.{getD, length}
 use mir.Syntax.{w32}
 use mir.Val.{SFits}
 use mir.Facts.{toZ-ofZ}
@@ -31,13 +33,17 @@ corrected-before-requires c κs = search needs
 raw-fits : (c : tie.After-corrected-before-arg) → SFits w32 (getD (now (c .before .before .before .args .i)) 0 (pos 0))
 raw-fits c = search needs
 
+-- there is a sample
+some-sample : (c : tie.Else1) → 0 < length (now (c .before .args .v))
+some-sample c = omega (arith, c .if1 .left)
+
 run-with-requires : tie.Need-run-with-requires
 run-with-requires c κs =
     let arg = c .before in
     let p = arg .before in
     let start = p .before .before in
     let h : SFits w32 (c .corrected-before .result) = sfits-of (c .corrected-before .ok) in (
-      (rw (p .probe-of .ensures) (phase-most (start .args .c) (start .pre .0)), start .pre .1, start .pre .2),
+      (rw (p .probe-of .ensures) (phase-most (start .args .c) (start .pre .0)), start .pre .1, start .pre .2, some-sample (p .before)),
       rw (toZ-ofZ h) (c .corrected-before .ensures ∙ rw (toZ-ofZ (raw-fits arg))),
     )
 

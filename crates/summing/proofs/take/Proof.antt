@@ -60,7 +60,7 @@ unfolding correction
 returns c =
     let m = c .before in
     let v = m .before .before in
-    rw (toZ-ofZ (mix-fits m), toZ-ofZ (in-fits (in-mag (m .mix .result) (mix-in m))), mix-is m, voltage-is v, toZ-ofZ (v .before .before .before .fits .raw)) at (c .add .ensures)
+    rw (toZ-ofZ (mix-fits m), toZ-ofZ (in-fits (in-mag (m .mix .result) (mix-in m))), mix-is m, voltage-is v) at (c .add .ensures)
 
 pub take-spec : {M : Type 1} → statement M
 take-spec = tie.close (tie.spec correct-requires mix-requires cast-add add-requires returns)
