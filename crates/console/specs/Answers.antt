@@ -8,6 +8,7 @@ use lib.IntN.{ℤ}
 use lib.ListN.{take}
 use Rattle.serial.specs.Ascii.{ascii}
 use Rattle.serial.specs.declared.Serial.{Serial}
+use Rattle.sample.specs.declared.Clips.{Clips}
 use Rattle.decimal.specs.Decimals.{decimal, signedDecimal}
 use Rattle.refusal.specs.Words.{wordsOf}
 use Rattle.console.specs.declared.unread.Why.{Why}
@@ -44,9 +45,13 @@ okLine = ascii "ok" ++ end
 unfoldable pub valueLine : ℤ → List ℕ
 valueLine v = ascii "ok " ++ signedDecimal v ++ end
 
--- ok NUMBER SERIAL
-unfoldable pub heldLine : ℕ → Serial → List ℕ
-heldLine number serial = ascii "ok " ++ decimal number ++ ascii " " ++ digitsText serial ++ end
+-- how many voltages and how many currents were clipped, a space before each
+unfoldable pub clipsText : Clips → List ℕ
+clipsText clips = ascii " " ++ decimal (clips .v) ++ ascii " " ++ decimal (clips .i)
+
+-- ok NUMBER SERIAL CLIPPED_V CLIPPED_I
+unfoldable pub heldLine : ℕ → Serial → Clips → List ℕ
+heldLine number serial clips = ascii "ok " ++ decimal number ++ ascii " " ++ digitsText serial ++ clipsText clips ++ end
 
 -- ok FORCE WAITING
 unfoldable pub cardsLine : Serial → Serial → List ℕ
@@ -61,7 +66,7 @@ helpLines =
     ∷ "# commit PORT: the card is whole and waits for the next interval"
     ∷ "# drop PORT: the card is forgotten"
     ∷ "# block VOLTAGES | CURRENTS: samples, at most 4,096 a side"
-    ∷ "# hold PORT: keeps the last closed interval; answers its number and its card's serial"
+    ∷ "# hold PORT: keeps the last closed interval; answers its number, its card's serial, and how many of its voltages and currents were clipped"
     ∷ "# read PORT REGISTER: of what is held; a name (VA_RMS, WATT_A, PA_POS_CNT, MIN1 ..) or a byte address"
     ∷ "# cards: the serials of the card in force and of the one that waits"
     ∷ "# help: these lines"
@@ -76,16 +81,16 @@ linesOf (s ∷ ss) = ascii s ++ end ++ linesOf ss
 unfoldable pub helpText : List ℕ
 helpText = linesOf helpLines
 
--- what is said, with a number and serials where a hold or `cards` says them
-unfoldable pub saidText : Said → ℕ → Serial → Serial → List ℕ
-saidText (said.Unread why) number serial waiting = unreadLine why
-saidText (said.Refused n) number serial waiting = refusedLine n
-saidText said.Done number serial waiting = okLine
-saidText (said.Value x) number serial waiting = valueLine x
-saidText said.Held number serial waiting = heldLine number serial
-saidText said.Cards number serial waiting = cardsLine serial waiting
-saidText said.Help number serial waiting = helpText
+-- what is said, with a number, serials and counts where a hold or `cards` says them
+unfoldable pub saidText : Said → ℕ → Serial → Clips → Serial → List ℕ
+saidText (said.Unread why) number serial clips waiting = unreadLine why
+saidText (said.Refused n) number serial clips waiting = refusedLine n
+saidText said.Done number serial clips waiting = okLine
+saidText (said.Value x) number serial clips waiting = valueLine x
+saidText said.Held number serial clips waiting = heldLine number serial clips
+saidText said.Cards number serial clips waiting = cardsLine serial waiting
+saidText said.Help number serial clips waiting = helpText
 
 -- the whole answer to a turn
 unfoldable pub answerText : Turn → List ℕ
-answerText t = saidText (t .said) (t .number) (t .serial) (t .waiting)
+answerText t = saidText (t .said) (t .number) (t .serial) (t .clips) (t .waiting)

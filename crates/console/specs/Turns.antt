@@ -7,6 +7,7 @@ use lib.IntN.{ℤ, pos}
 use lib.ListN.{length, take, drop, getD}
 use Rattle.serial.specs.Serials.{noSerial}
 use Rattle.address.specs.Addresses.{wordAddr, byteAddr}
+use Rattle.sample.specs.Sums.{noClips}
 use Rattle.steps.specs.declared.Answer.{Answer}
 use Rattle.steps.specs.declared.Answer.the-variants as answer
 use Rattle.port.specs.declared.Reading.{Reading}
@@ -32,9 +33,9 @@ use Rattle.console.specs.Unread.{stoppedAt, sideStopped}
 
 -- ---- what is said
 
--- without a number and serials
+-- without a number, serials and counts
 abbrev pub plainly : Said → Module → Turn
-plainly s m = record { said = s; number = 0; serial = noSerial; waiting = noSerial; after = m }
+plainly s m = record { said = s; number = 0; serial = noSerial; clips = noClips; waiting = noSerial; after = m }
 
 abbrev pub unreadTurn : Module → Why → Turn
 unreadTurn m why = plainly (said.Unread why) m
@@ -50,9 +51,9 @@ abbrev pub heldSaid : Answer → Said
 heldSaid answer.Done = said.Held
 heldSaid (answer.Refused n) = said.Refused n
 
--- an interval's number and serial
+-- an interval's number, its serial and its counts of clipped samples
 abbrev pub heldTurn : Holding → Turn
-heldTurn h = record { said = heldSaid (h .answer); number = h .number; serial = h .serial; waiting = noSerial; after = h .after }
+heldTurn h = record { said = heldSaid (h .answer); number = h .number; serial = h .serial; clips = h .clips; waiting = noSerial; after = h .after }
 
 abbrev pub readSaid : Reading → Said
 readSaid (reading.Value x) = said.Value x
@@ -63,7 +64,7 @@ readTurn l = plainly (readSaid (l .answer)) (l .after)
 
 -- the serials of the card in force and of the one that waits
 abbrev pub cardsTurn : Module → Turn
-cardsTurn m = record { said = said.Cards; number = 0; serial = cardsOf m .force; waiting = cardsOf m .waiting; after = m }
+cardsTurn m = record { said = said.Cards; number = 0; serial = cardsOf m .force; clips = noClips; waiting = cardsOf m .waiting; after = m }
 
 -- a refused start keeps the module that runs
 abbrev pub begunBy : Answer → Module → Module → Module

@@ -6,7 +6,7 @@ ghost use lib.ListN.{length, take};
 ghost use Rattle.serial.specs.Ascii.{ascii};
 ghost use Rattle.console.specs.Unread.{whyWords};
 ghost use Rattle.console.specs.Inside.{placeOf};
-ghost use Rattle.console.specs.Answers.{unreadLine, refusedLine, valueLine, heldLine, cardsLine, helpText, answerText};
+ghost use Rattle.console.specs.Answers.{unreadLine, refusedLine, valueLine, clipsText, heldLine, cardsLine, helpText, answerText};
 use super::output::put;
 use super::output::put_card;
 use super::output::put_digits;
@@ -15,16 +15,17 @@ use super::output::put_words;
 use super::turns::Said;
 use super::turns::Turn;
 use super::unread::Why;
+use sample::Clips;
 use serial::Serial;
 
-const HELP: [u8; 909] = *b"\
+const HELP: [u8; 962] = *b"\
     # start N B SLOT SLOT SLOT SLOT SLOT SLOT: N samples an interval, energy buckets of B, six registers to track or 0\n\
     # open PORT SERIAL: begins a card; ports are 0 and 1\n\
     # write PORT FIELD VALUE: VOFFS IOFFS VGAIN IGAIN PHASE IRMSOFFS SQUELCH POFFS, or 1 to 8\n\
     # commit PORT: the card is whole and waits for the next interval\n\
     # drop PORT: the card is forgotten\n\
     # block VOLTAGES | CURRENTS: samples, at most 4,096 a side\n\
-    # hold PORT: keeps the last closed interval; answers its number and its card's serial\n\
+    # hold PORT: keeps the last closed interval; answers its number, its card's serial, and how many of its voltages and currents were clipped\n\
     # read PORT REGISTER: of what is held; a name (VA_RMS, WATT_A, PA_POS_CNT, MIN1 ..) or a byte address\n\
     # cards: the serials of the card in force and of the one that waits\n\
     # help: these lines\n\
@@ -130,16 +131,28 @@ fn value_line(out: &mut [u8], used: usize, v: i64) -> usize
     put(out, b, b"\n")
 }
 
-// An interval's number and its serial.
-fn held_line(out: &mut [u8], used: usize, number: u32, serial: Serial) -> usize
-    requires { ⌜ used + 64 ≤ length (now out) ⌝ }
-    ensures { λ r. ⌜ (take r (now (out .exit)) ≡ take used (now (out .entry)) ++ heldLine number serial) × (r ≤ used + 64) ⌝ }
+// How many voltages and how many currents were clipped, a space before each.
+fn put_clips(out: &mut [u8], used: usize, clips: Clips) -> usize
+    requires { ⌜ used + 42 ≤ length (now out) ⌝ }
+    ensures { λ r. ⌜ (take r (now (out .exit)) ≡ take used (now (out .entry)) ++ clipsText clips) × (r ≤ used + 42) ⌝ }
+{
+    let a = put(out, used, b" ");
+    let b = put_number(out, a, clips.v as i64);
+    let c = put(out, b, b" ");
+    put_number(out, c, clips.i as i64)
+}
+
+// An interval's number, its serial and its counts of clipped samples.
+fn held_line(out: &mut [u8], used: usize, number: u32, serial: Serial, clips: Clips) -> usize
+    requires { ⌜ used + 80 ≤ length (now out) ⌝ }
+    ensures { λ r. ⌜ (take r (now (out .exit)) ≡ take used (now (out .entry)) ++ heldLine number serial clips) × (r ≤ used + 80) ⌝ }
 {
     let a = put(out, used, b"ok ");
     let b = put_number(out, a, number as i64);
     let c = put(out, b, b" ");
     let d = put_digits(out, c, serial);
-    put(out, d, b"\n")
+    let e = put_clips(out, d, clips);
+    put(out, e, b"\n")
 }
 
 // The serials of the card in force and of the one that waits.
@@ -169,13 +182,14 @@ pub(super) fn put_answer(out: &mut [u8], used: usize, t: Turn) -> usize
 {
     let said = t.said;
     let serial = t.serial;
+    let clips = t.clips;
     let waiting = t.waiting;
     match said {
         Said::Unread(why) => unread_line(out, used, why),
         Said::Refused(n) => refused_line(out, used, n),
         Said::Done => put(out, used, b"ok\n"),
         Said::Value(x) => value_line(out, used, x),
-        Said::Held => held_line(out, used, t.number, serial),
+        Said::Held => held_line(out, used, t.number, serial, clips),
         Said::Cards => cards_line(out, used, serial, waiting),
         Said::Help => help_lines(out, used),
     }

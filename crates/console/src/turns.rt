@@ -25,6 +25,7 @@ use address::WordAddr;
 use address::byte_addr;
 use address::word_addr;
 use port::Reading;
+use sample::Clips;
 use serial::Serial;
 use steps::Answer;
 
@@ -41,11 +42,13 @@ pub enum Said {
     Help,
 }
 
-// What is said, and the module after the step. A hold says an interval's number and serial, `cards` the serials in force and waiting.
+// What is said, and the module after the step. A hold says an interval's number, its serial and its counts of clipped samples, `cards` the serials
+// in force and waiting.
 pub struct Turn {
     pub said: Said,
     pub number: u32,
     pub serial: Serial,
+    pub clips: Clips,
     pub waiting: Serial,
     pub after: Module,
 }
@@ -58,6 +61,7 @@ fn plain(said: Said, m: Module) -> Turn
         said,
         number: 0,
         serial: none,
+        clips: Clips { v: 0, i: 0 },
         waiting: none,
         after: m,
     }
@@ -101,6 +105,7 @@ fn held(m: Module, port: i64) -> Turn
     let h = m.hold(port);
     let answer = h.answer;
     let serial = h.serial;
+    let clips = h.clips;
     let after = h.after;
     let said = said_of_hold(answer);
     let none = Serial::none();
@@ -108,6 +113,7 @@ fn held(m: Module, port: i64) -> Turn
         said,
         number: h.number,
         serial,
+        clips,
         waiting: none,
         after,
     }
@@ -141,6 +147,7 @@ fn shown(m: Module) -> Turn
         said: Said::Cards,
         number: 0,
         serial: force,
+        clips: Clips { v: 0, i: 0 },
         waiting,
         after: m,
     }
