@@ -1,4 +1,5 @@
-/* close.c: what an interval comes to when it closes: registers, energy, minima and maxima, its number. */
+/* close.c: what an interval comes to when it closes: registers, energy, minima and maxima, its counts of clipped samples, its
+   number. */
 #include <string.h>
 
 #include "module.h"
@@ -104,6 +105,7 @@ void interval_close(struct module *module)
     work_registers(module, module->closed.registers.plain);
     track(&module->closed.registers, module->slot, !module->some_closed);
     module->closed.serial = module->card.serial;
+    module->closed.clipped = module->interval.clipped;
     module->closed.number++; /* unsigned 32 bits: after 4,294,967,295 comes 0 */
     module->some_closed = true;
     memset(&module->interval, 0, sizeof module->interval);
