@@ -167,6 +167,16 @@ static void send_card(struct run *run)
     put_probe(&run->waiting, (int)draw(2));
 }
 
+/* Whatever is refused or empty leaves every count as it is. */
+static void put_nothing(void)
+{
+    static const char *const nothing[] = {"block 8388608 | 0", "block 0 | -8388609", "block 0 |", "block |",
+                                          "start 0 1 0 0 0 0 0 0", "hold 2", "commit 1", "drop 0"};
+
+    fputs(nothing[draw(sizeof nothing / sizeof nothing[0])], stdout);
+    put_end();
+}
+
 static void put_run(int64_t n, int64_t blocks)
 {
     struct run run = {.n = n};
@@ -180,6 +190,8 @@ static void put_run(int64_t n, int64_t blocks)
         put_samples(&run, any_count(&run));
         if (chance(30))
             send_card(&run);
+        if (chance(15))
+            put_nothing();
         put_holds(&run);
     }
 }
