@@ -1,4 +1,4 @@
-/* close.c: what an interval comes to when it closes: registers, energy, minima and maxima, its counts of clipped samples, its
+/* close.c: what an interval comes to when it closes: registers, energy, minima and maxima, counts of clipped samples,
    number. */
 #include <string.h>
 

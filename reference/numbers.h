@@ -26,8 +26,8 @@ static inline bool is_outside(int64_t value)
     return (uint64_t)(value - LOWEST) > (uint64_t)(HIGHEST - LOWEST);
 }
 
-/* To clip is to replace by the nearer end of the 24-bit range. The shift gives -1 for a negative value, whose end is the
-   lower one, and 0 for any other: one test serves both ends, and it is the one that is counted. */
+/* To clip is to replace by the nearer end of the 24-bit range. The shift gives -1 for a negative value, whose end is
+   the lower one, and 0 for any other: one test serves both ends, and it is the one that is counted. */
 static inline int64_t clipped(int64_t value)
 {
     return is_outside(value) ? (value >> 63) ^ HIGHEST : value;
