@@ -25,7 +25,7 @@ struct probe {
 struct run {
     int64_t n, taken;
     struct probe force, waiting;
-    bool waits, closed;
+    bool waits, closed, all;       /* all: every sample is to be clipped */
     enum share voltages, currents; /* of the running interval */
 };
 
@@ -87,8 +87,8 @@ static void begin_interval(struct run *run)
     if (run->waits)
         run->force = run->waiting;
     run->waits = false;
-    run->voltages = (enum share)draw(SHARES);
-    run->currents = (enum share)draw(SHARES);
+    run->voltages = run->all ? ALWAYS : (enum share)draw(SHARES);
+    run->currents = run->all ? ALWAYS : (enum share)draw(SHARES);
 }
 
 /* A long side is written in plain decimal alone. */
@@ -177,14 +177,19 @@ static void put_nothing(void)
     put_end();
 }
 
-static void put_run(int64_t n, int64_t blocks)
+static void put_start(int64_t n)
 {
-    struct run run = {.n = n};
-
     printf("start %" PRId64, n);
     put_number(PICK(1, 100, 16777216));
     fputs(" VA_RMS IA_RMS IA_PEAK WATT_A 0 0", stdout);
     put_end();
+}
+
+static void put_run(int64_t n, int64_t blocks)
+{
+    struct run run = {.n = n};
+
+    put_start(n);
     send_card(&run);
     for (; blocks > 0; blocks--) {
         put_samples(&run, any_count(&run));
@@ -196,12 +201,27 @@ static void put_run(int64_t n, int64_t blocks)
     }
 }
 
-/* Counts beyond a byte, and up to the greatest there is. */
+/* Counts beyond a byte. */
 static void put_long_run(void)
 {
     int64_t n = PICK(256, 257, 300, 300, 4096);
 
     put_run(n, n == 4096 ? 2 : 4);
+}
+
+/* The greatest counts there are: at gain two one end or the other can be reached, whatever the offset. */
+static void put_full_run(void)
+{
+    struct run run = {.n = LONGEST, .waiting = any_probe(), .waits = true, .all = true};
+    int port = (int)draw(2);
+
+    run.waiting.voltage.gain = run.waiting.current.gain = 2 * ONE;
+    put_start(LONGEST);
+    put_probe(&run.waiting, port);
+    put_samples(&run, LONGEST);
+    put_hold(port);
+    put_samples(&run, between(1, 9));
+    put_hold(1 - port);
 }
 
 void put_clipped(void)
@@ -211,6 +231,8 @@ void put_clipped(void)
     put_run(few, between(6, 14));
     if (chance(15))
         put_long_run();
+    if (chance(6))
+        put_full_run();
     if (chance(50))
         put_run(other, between(4, 10));
 }
