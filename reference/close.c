@@ -65,8 +65,8 @@ static void count_energy(struct module *module, int64_t power)
         energy_advance(energy, size_of(power) * module->samples, module->bucket);
 }
 
-/* A squelched interval has no current and no power, and so no energy (document 02, A1). The root decides and not IA_RMS:
-   a root of 0 is not below a SQUELCH of 0, and then P stays. */
+/* A squelched interval has no current and no power, and so no energy (document 02, A1). The root decides and not
+   IA_RMS: a root of 0 is not below a SQUELCH of 0, and then P stays. */
 static void work_registers(struct module *module, int64_t plain[PLAIN])
 {
     int64_t root = current_root(module);

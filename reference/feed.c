@@ -26,8 +26,8 @@ static inline struct corrected corrected(int64_t raw, int64_t offset, int64_t ga
     return (struct corrected){clipped(far), is_outside(far)};
 }
 
-/* ((4,096 - PHASE) times now + PHASE times before) / 4,096, rounding down: 4,096 times now comes out of the division whole,
-   and one product is left, below 2^36 in size. A mix of two values of the 24-bit range stays within it. */
+/* ((4,096 - PHASE) times now + PHASE times before) / 4,096, rounding down: 4,096 times now comes out of the division
+   whole, and one product is left, below 2^36 in size. A mix of two values of the 24-bit range stays within it. */
 static inline int64_t mixed(int64_t phase, int64_t now, int64_t before)
 {
     return now + halved_down(phase * (before - now), 12);

@@ -32,8 +32,8 @@ struct run {
 /* Offset or gain alone can bring samples out of the range, or both together, or neither. */
 static struct side any_side(void)
 {
-    int64_t gain = PICK(ONE, ONE, ONE, ONE + 1, ONE - 1, ONE / 4 * 5, ONE / 2 * 3, ONE * 2, HIGHEST,
-                        between(ONE / 2, ONE * 2));
+    int64_t gain =
+        PICK(ONE, ONE, ONE, ONE + 1, ONE - 1, ONE / 4 * 5, ONE / 2 * 3, ONE * 2, HIGHEST, between(ONE / 2, ONE * 2));
     int64_t offset = PICK(0, 0, 0, 1, -1, 2, -2, 1000, -1000, HIGHEST, LOWEST, between(LOWEST, HIGHEST));
 
     return (struct side){offset, gain};
@@ -51,13 +51,15 @@ static struct probe any_probe(void)
 
 static void put_probe(const struct probe *probe, int port)
 {
-    const int64_t value[8] = {probe->voltage.offset, probe->current.offset, probe->voltage.gain, probe->current.gain,
-                              probe->phase,          0,                     probe->squelch,      0};
+    const int64_t value[8] = {probe->voltage.offset, probe->current.offset,
+                              probe->voltage.gain,   probe->current.gain,
+                              probe->phase,          0,
+                              probe->squelch,        0};
 
     put_card(value, port);
 }
 
-/* The raw sample nearest to 0 that is clipped at this end. It may be one that no block can have. */
+/* The raw sample nearest to the offset that is clipped at this end. It may be one that no block can have. */
 static int64_t first_clipped(const struct side *side, bool upper)
 {
     const int64_t end = INT64_C(1) << 44; /* 2^23 times 2^21 */
@@ -170,8 +172,14 @@ static void send_card(struct run *run)
 /* Whatever is refused or empty leaves every count as it is. */
 static void put_nothing(void)
 {
-    static const char *const nothing[] = {"block 8388608 | 0", "block 0 | -8388609", "block 0 |", "block |",
-                                          "start 0 1 0 0 0 0 0 0", "hold 2", "commit 1", "drop 0"};
+    static const char *const nothing[] = {"block 8388608 | 0",
+                                          "block 0 | -8388609",
+                                          "block 0 |",
+                                          "block |",
+                                          "start 0 1 0 0 0 0 0 0",
+                                          "hold 2",
+                                          "commit 1",
+                                          "drop 0"};
 
     fputs(nothing[draw(sizeof nothing / sizeof nothing[0])], stdout);
     put_end();

@@ -1,4 +1,4 @@
-/* script-values.c: settings, fields, addresses and serials, good and bad, whole cards, and the ways to write a number. */
+/* script-values.c: settings, fields, addresses and serials, good and bad, cards, and the ways to write a number. */
 #include <inttypes.h>
 #include <stdio.h>
 

@@ -50,8 +50,8 @@ void put_word(int64_t word);
 void put_address(int64_t address);
 void put_serial(void);
 void put_bad_serial(void);
-void put_step(const char *step, int port);            /* its word and a good port, the line not ended */
-void put_card(const int64_t value[8], int port);      /* open, the fields in their order, commit */
+void put_step(const char *step, int port);       /* its word and a good port, the line not ended */
+void put_card(const int64_t value[8], int port); /* open, the fields in their order, commit */
 
 /* Blocks (script-blocks.c). */
 void put_block(struct belief *belief);
