@@ -1,4 +1,5 @@
-/* close.c: what an interval comes to when it closes: registers, energy, minima and maxima, its number. */
+/* close.c: what an interval comes to when it closes: registers, energy, minima and maxima, counts of clipped samples,
+   number. */
 #include <string.h>
 
 #include "module.h"
@@ -64,8 +65,8 @@ static void count_energy(struct module *module, int64_t power)
         energy_advance(energy, size_of(power) * module->samples, module->bucket);
 }
 
-/* A squelched interval has no current and no power, and so no energy (document 02, A1). The root decides and not IA_RMS:
-   a root of 0 is not below a SQUELCH of 0, and then P stays. */
+/* A squelched interval has no current and no power, and so no energy (document 02, A1). The root decides and not
+   IA_RMS: a root of 0 is not below a SQUELCH of 0, and then P stays. */
 static void work_registers(struct module *module, int64_t plain[PLAIN])
 {
     int64_t root = current_root(module);
@@ -104,6 +105,7 @@ void interval_close(struct module *module)
     work_registers(module, module->closed.registers.plain);
     track(&module->closed.registers, module->slot, !module->some_closed);
     module->closed.serial = module->card.serial;
+    module->closed.clipped = module->interval.clipped;
     module->closed.number++; /* unsigned 32 bits: after 4,294,967,295 comes 0 */
     module->some_closed = true;
     memset(&module->interval, 0, sizeof module->interval);

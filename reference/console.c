@@ -35,8 +35,7 @@ static bool next_line(struct line *line)
 /* What an accepted step says after its ok. */
 struct said {
     int64_t value;
-    uint32_t number;
-    struct serial serial;
+    struct held held;
 };
 
 /* A refused start keeps the module. */
@@ -66,7 +65,7 @@ static int take_step(struct module *module, const struct step *step, struct said
     case DROP:
         return module_drop(module, number[0]);
     case HOLD:
-        return module_hold(module, number[0], &said->number, &said->serial);
+        return module_hold(module, number[0], &said->held);
     case READ:
         return module_read(module, number[0], number[1], &said->value);
     case BLOCK:
@@ -92,12 +91,18 @@ static void put_card(bool there, const struct card *card)
         fputs(" -", stdout);
 }
 
+static void put_held(const struct held *held)
+{
+    printf(" %" PRIu32, held->number);
+    put_serial(&held->serial);
+    printf(" %" PRId64 " %" PRId64, held->clipped.voltages, held->clipped.currents);
+}
+
 static void put_accepted(const struct module *module, enum kind kind, const struct said *said)
 {
     fputs("ok", stdout);
     if (kind == HOLD) {
-        printf(" %" PRIu32, said->number);
-        put_serial(&said->serial);
+        put_held(&said->held);
     } else if (kind == READ) {
         printf(" %" PRId64, said->value);
     } else if (kind == CARDS) {

@@ -12,19 +12,30 @@ static bool in_range(const int32_t *sample, size_t count)
     return bits < 16777216u;
 }
 
+/* A corrected sample, and whether it lay outside the 24-bit range before clipping (document 02, A2). */
+struct corrected {
+    int64_t value;
+    bool outside;
+};
+
 /* |raw - offset| < 2^24 and gain < 2^23: the product is below 2^47. */
-static inline int64_t corrected(int64_t raw, int64_t offset, int64_t gain)
+static inline struct corrected corrected(int64_t raw, int64_t offset, int64_t gain)
 {
-    return clipped(halved_down((raw - offset) * gain, 21));
+    int64_t far = halved_down((raw - offset) * gain, 21);
+
+    return (struct corrected){clipped(far), is_outside(far)};
 }
 
-/* Both parts together are at most 4,096 times 2^23. A mix of two values of the 24-bit range stays within it. */
+/* ((4,096 - PHASE) times now + PHASE times before) / 4,096, rounding down: 4,096 times now comes out of the division
+   whole, and one product is left, below 2^36 in size. A mix of two values of the 24-bit range stays within it. */
 static inline int64_t mixed(int64_t phase, int64_t now, int64_t before)
 {
-    return halved_down((4096 - phase) * now + phase * before, 12);
+    return now + halved_down(phase * (before - now), 12);
 }
 
-/* Samples of one interval, so of one card. `before` is the raw current that came before them. */
+/* Samples of one interval, so of one card. `before` is the raw current that came before them: it is corrected for PHASE
+   alone and not counted. A clipped sample is counted by adding its test, since a branch would be mispredicted where
+   peaks are clipped; both counts share one register, of which the loop has too few. */
 static void accumulate(struct interval *interval, const struct card *card, int64_t before, const int32_t *voltage,
                        const int32_t *current, size_t count)
 {
@@ -32,20 +43,26 @@ static void accumulate(struct interval *interval, const struct card *card, int64
     const int64_t ioffs = card->field[IOFFS], igain = card->field[IGAIN];
     const int64_t phase = card->field[PHASE];
     struct interval sum = *interval;
-    int64_t last = corrected(before, ioffs, igain);
+    int64_t last = corrected(before, ioffs, igain).value;
+    uint64_t both = 0; /* clipped voltages in the lower half, currents in the upper */
 
     for (size_t k = 0; k < count; k++) {
-        int64_t v = corrected(voltage[k], voffs, vgain);
-        int64_t now = corrected(current[k], ioffs, igain);
-        int64_t i = mixed(phase, now, last);
+        struct corrected volts = corrected(voltage[k], voffs, vgain);
+        struct corrected amps = corrected(current[k], ioffs, igain);
+        int64_t v = volts.value;
+        int64_t i = mixed(phase, amps.value, last);
         int64_t size = size_of(i);
 
-        last = now;
+        last = amps.value;
+        both += volts.outside;
+        both += (uint64_t)amps.outside << 32;
         sum.voltage_squares += v * v;
         sum.current_squares += i * i;
         sum.products += v * i;
         sum.peak = size > sum.peak ? size : sum.peak;
     }
+    sum.clipped.voltages += (int64_t)(both & UINT32_MAX);
+    sum.clipped.currents += (int64_t)(both >> 32);
     sum.samples += (int64_t)count;
     *interval = sum;
 }

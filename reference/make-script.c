@@ -260,6 +260,8 @@ int main(int argc, char **argv)
     whole_reading(&belief, (int)draw(2));
     if (chance(70))
         put_no_load(&belief);
+    if (chance(80))
+        put_clipped();
     put_last_line();
     return fflush(stdout) == 0 ? 0 : 1;
 }

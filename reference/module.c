@@ -96,16 +96,18 @@ int module_drop(struct module *module, int64_t port)
     return 0;
 }
 
-int module_hold(struct module *module, int64_t port, uint32_t *number, struct serial *serial)
+int module_hold(struct module *module, int64_t port, struct held *held)
 {
+    const struct reading *closed = &module->closed;
+
+    memset(held, 0, sizeof *held);
     if (!is_port(port))
         return 8;
     if (!module->some_closed)
         return 14;
-    module->port[port].hold = module->closed;
+    module->port[port].hold = *closed;
     module->port[port].held = true;
-    *number = module->closed.number;
-    *serial = module->closed.serial;
+    *held = (struct held){closed->number, closed->serial, closed->clipped};
     return 0;
 }
 

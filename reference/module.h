@@ -11,11 +11,17 @@
 
 enum { PORTS = 2, BLOCK_MOST = 4096 };
 
+/* How many of an interval's samples, at most 4,096, lay outside the 24-bit range before clipping. */
+struct clippings {
+    int64_t voltages, currents;
+};
+
 /* The running interval. Each sum is over at most 4,096 products of sizes up to 2^23: at most 2^58. */
 struct interval {
     int64_t samples;
     int64_t voltage_squares, current_squares, products;
     int64_t peak;
+    struct clippings clipped;
 };
 
 /* One direction's energy. The remainder is below the bucket, so below 2^48. */
@@ -27,7 +33,15 @@ struct energy {
 struct reading {
     uint32_t number;
     struct serial serial;
+    struct clippings clipped; /* no registers: a hold alone answers them */
     struct registers registers;
+};
+
+/* What a hold answers: zeros where it is refused. */
+struct held {
+    uint32_t number;
+    struct serial serial;
+    struct clippings clipped;
 };
 
 /* A port: the card being written there, and what is held there. */
@@ -59,7 +73,7 @@ int module_open(struct module *module, int64_t port, const unsigned char *text, 
 int module_write(struct module *module, int64_t port, int64_t field, int64_t value);
 int module_commit(struct module *module, int64_t port);
 int module_drop(struct module *module, int64_t port);
-int module_hold(struct module *module, int64_t port, uint32_t *number, struct serial *serial);
+int module_hold(struct module *module, int64_t port, struct held *held);
 int module_read(const struct module *module, int64_t port, int64_t byte_address, int64_t *value);
 int module_block(struct module *module, const int32_t *voltage, size_t voltages, const int32_t *current,
                  size_t currents);

@@ -2,6 +2,7 @@
 #ifndef NUMBERS_H
 #define NUMBERS_H
 
+#include <stdbool.h>
 #include <stdint.h>
 
 /* The 24-bit range. */
@@ -18,10 +19,18 @@ static inline int64_t halved_down(int64_t value, int bits)
     return value >> bits;
 }
 
-/* To clip is to replace by the nearer end of the 24-bit range. */
+/* Shifted up by 2^23, a value of the 24-bit range, and no other, is below 2^24 as an unsigned number. Its ends are not
+   outside. */
+static inline bool is_outside(int64_t value)
+{
+    return (uint64_t)(value - LOWEST) > (uint64_t)(HIGHEST - LOWEST);
+}
+
+/* To clip is to replace by the nearer end of the 24-bit range. The shift gives -1 for a negative value, whose end is
+   the lower one, and 0 for any other: one test serves both ends, and it is the one that is counted. */
 static inline int64_t clipped(int64_t value)
 {
-    return value < LOWEST ? LOWEST : value > HIGHEST ? HIGHEST : value;
+    return is_outside(value) ? (value >> 63) ^ HIGHEST : value;
 }
 
 /* Callers stay far from INT64_MIN: no figure of the module passes 2^58 in size. */

@@ -1,5 +1,6 @@
 /* pace.c: the program reference-pace: feeds one block of 4,096 samples as often as its argument says (100 if none)
-   and prints the seven tracked registers, both counts and the interval number. */
+   and prints the seven tracked registers, both counts, the interval number, and how many voltages and currents of that
+   interval were clipped. */
 #include <inttypes.h>
 #include <stdio.h>
 #include <stdlib.h>
@@ -28,7 +29,7 @@ static void make_block(void)
 static int prepare(struct module *module)
 {
     static const int64_t slots_off[SLOTS];
-    static const int64_t value[FIELDS] = {17, -5, 2097152, 1900000, 1000, 3, 10, 2};
+    static const int64_t value[FIELDS] = {17, -5, 2200000, 2150000, 1000, 3, 10, 2};
     int refusal = module_start(module, 400, INT64_C(0x0001AFC8BB4C), slots_off);
 
     if (refusal == 0)
@@ -41,9 +42,8 @@ static int prepare(struct module *module)
 static int print_registers(struct module *module)
 {
     static const int64_t address[PLAIN] = {0x81, 0xBA, 0xD2, 0xE1, 0xEA, 0x12F, 0x1A1, 0x1AD, 0x1B6};
-    struct serial serial;
-    uint32_t number;
-    int refusal = module_hold(module, 0, &number, &serial);
+    struct held held;
+    int refusal = module_hold(module, 0, &held);
 
     for (int k = 0; k < PLAIN && refusal == 0; k++) {
         int64_t value = 0;
@@ -52,7 +52,7 @@ static int print_registers(struct module *module)
         printf("%" PRId64 " ", value);
     }
     if (refusal == 0)
-        printf("%" PRIu32 "\n", number);
+        printf("%" PRIu32 " %" PRId64 " %" PRId64 "\n", held.number, held.clipped.voltages, held.clipped.currents);
     return refusal;
 }
 

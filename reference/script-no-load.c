@@ -42,27 +42,11 @@ static void put_tracking_start(int64_t n)
     put_end();
 }
 
-static void put_step(const char *step, int port)
-{
-    fputs(step, stdout);
-    put_number(port);
-}
-
-static void put_card(const struct probe *probe, int port)
+static void put_probe(const struct probe *probe, int port)
 {
     const int64_t value[8] = {0, 0, ONE, ONE, 0, probe->irmsoffs, probe->squelch, probe->poffs};
 
-    put_step("open", port);
-    put_serial();
-    put_end();
-    for (int field = 1; field <= 8; field++) {
-        put_step("write", port);
-        put_field(field);
-        put_number(value[field - 1]);
-        put_end();
-    }
-    put_step("commit", port);
-    put_end();
+    put_card(value, port);
 }
 
 static void put_samples(const struct probe *probe, int64_t count)
@@ -88,7 +72,7 @@ static void put_intervals(const struct probe *probe, const struct probe *next, i
     bool early = chance(30);
 
     put_samples(probe, early ? count - 1 : count);
-    put_card(next, port);
+    put_probe(next, port);
     if (early)
         put_samples(probe, 1);
 }
@@ -101,7 +85,7 @@ void put_no_load(struct belief *belief)
 
     put_tracking_start(n);
     *belief = (struct belief){.manner = SMALL, .samples = n, .budget = belief->budget};
-    put_card(&probe, (int)draw(2));
+    put_probe(&probe, (int)draw(2));
     belief->card = belief->closed = true;
     for (int64_t rounds = between(3, 6); rounds > 0; rounds--) {
         struct probe next = any_probe(gives_back);

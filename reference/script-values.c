@@ -1,4 +1,4 @@
-/* script-values.c: settings, fields, addresses and serials, good and bad, and the ways to write a number. */
+/* script-values.c: settings, fields, addresses and serials, good and bad, cards, and the ways to write a number. */
 #include <inttypes.h>
 #include <stdio.h>
 
@@ -246,4 +246,25 @@ void put_bad_serial(void)
         fwrite("04\0", 1, 3, stdout);
     else
         fputs(bad[draw(sizeof bad / sizeof bad[0])], stdout);
+}
+
+void put_step(const char *step, int port)
+{
+    fputs(step, stdout);
+    put_number(port);
+}
+
+void put_card(const int64_t value[8], int port)
+{
+    put_step("open", port);
+    put_serial();
+    put_end();
+    for (int field = 1; field <= 8; field++) {
+        put_step("write", port);
+        put_field(field);
+        put_number(value[field - 1]);
+        put_end();
+    }
+    put_step("commit", port);
+    put_end();
 }

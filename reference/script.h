@@ -50,6 +50,8 @@ void put_word(int64_t word);
 void put_address(int64_t address);
 void put_serial(void);
 void put_bad_serial(void);
+void put_step(const char *step, int port);       /* its word and a good port, the line not ended */
+void put_card(const int64_t value[8], int port); /* open, the fields in their order, commit */
 
 /* Blocks (script-blocks.c). */
 void put_block(struct belief *belief);
@@ -66,6 +68,9 @@ int whole_reading(struct belief *belief, int port);
 
 /* Intervals around SQUELCH, on a fresh module (script-no-load.c). */
 void put_no_load(struct belief *belief);
+
+/* Samples around the ends of the 24-bit range, on a fresh module (script-clipped.c). */
+void put_clipped(void);
 
 /* Names that are none, or stand in the wrong place (script-names.c). */
 void put_odd_name(void);

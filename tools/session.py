@@ -40,11 +40,20 @@ def number(word, names=()):
     return int(found[3], 16) if found[3] else int(found[1] + found[2])
 
 
+def outside(raws, offset, gain):
+    """How many of the samples are outside the 24-bit range before clipping."""
+    return sum(not -2**23 <= (raw - offset) * gain >> 21 < 2**23 for raw in raws)
+
+
+def several(count, what):
+    return f"{count:,} {what}{'' if count == 1 else 's'}"
+
+
 class Card:
-    """A card of a session: the fields that are written and not told yet, where it was committed and from which sample on it counts."""
+    """A card of a session: its fields, those that are not told yet, where it was committed and from which sample on it counts."""
 
     def __init__(self, serial, port):
-        self.serial, self.port, self.unsaid = serial, port, {}
+        self.serial, self.port, self.fields, self.unsaid = serial, port, {}, {}
         self.committed = self.first = None
         self.end, self.colour, self.name = "still open", NO_CARD, serial
 
@@ -144,7 +153,8 @@ class Session:
         name = FIELDS[field - 1] if 1 <= field <= 8 else f"field {field}"
         if self.refused(f"fitter {port}", f"{name} {number(value):,}"):
             return
-        self.desks[port].unsaid[field] = number(value)
+        card = self.desks[port]
+        card.fields[field] = card.unsaid[field] = number(value)
 
     def say_written(self, *lanes):
         """Tells the fields that were written since they were last told, in these lanes or in all."""
@@ -214,12 +224,19 @@ class Session:
     def hold(self, port):
         if self.refused(f"reader {port}", "hold"):
             return
-        _, _, count, card = self.closed or (0, 0, 0, None)
-        if not card or self.answer.split(" ")[1:] != [str(count), card.serial]:
-            raise Wrong(f"{self.line}: answered {self.answer!r}, but by the steps before it the last interval is {count}"
-                        f"{f' with card {card.serial}' if card else ''}")
+        first, end, count, card = self.closed or (0, 0, 0, None)
+        if not card:
+            raise Wrong(f"{self.line}: answered {self.answer!r}, but by the steps before it no interval has closed")
+        voltages = outside(self.volts[first:end], card.fields[1], card.fields[3])
+        currents = outside(self.amps[first:end], card.fields[2], card.fields[4])
+        clipped = f"{several(voltages, 'voltage')}, {several(currents, 'current')}"
+        if self.answer != f"ok {count} {card.serial} {voltages} {currents}":
+            raise Wrong(f"{self.line}: answered {self.answer!r}, but by the steps before it the last interval is {count} with card "
+                        f"{card.serial}, clipped: {clipped}")
         self.held[port] = self.closed
         self.say(f"reader {port}", f"hold: interval {count}, card {card.serial}", card.colour[0], card)
+        if voltages or currents:
+            self.say(f"reader {port}", f"clipped: {clipped}", INK, card)
 
     def read(self, port, address):
         lane = f"reader {port}"
