@@ -6,7 +6,7 @@ ghost use lib.Signed.{mag};
 ghost use lib.ListN.{length, getD};
 ghost use Rattle.sample.specs.Sample.{corrected, wasClipped, mixed};
 ghost use Rattle.sample.specs.Sums.{joined, previous, samplesIn, addedAll, withSamples};
-ghost use Rattle.sample.specs.Inside.{Flowing, Spare, Phased};
+ghost use Rattle.sample.specs.Inside.{Flowing, Few, Spare, Phased};
 ghost use Rattle.summing.specs.Inside.{probeOf, probedAll, tallyOf, tallied, oneMore, joinedTo, Small};
 use card::Card;
 use card::names::IGAIN;
@@ -63,22 +63,23 @@ fn join(f: Flow, v: i32, i: i32) -> Flow
     }
 }
 
-// What the loop adds up: as the sums, but both counts stand in one number, that of the currents from 2^32 on, since the machine has few
+// What the loop adds up: as the sums, but both counts stand in one number, that of the currents from 2^16 on, since the machine has few
 // registers; and the raw current is left to the end.
 pub struct Tally {
     pub vv: u64,
     pub flow: Flow,
-    pub clips: u64,
+    pub clips: u32,
 }
 
 fn tally_of(s: Sums) -> Tally
+    requires { ⌜ Few (s .clips) 4096 ⌝ }
     ensures { λ r. ⌜ r ≡ tallyOf s ⌝ }
 {
     let flow = s.flow;
     Tally {
         vv: s.vv,
         flow,
-        clips: s.clips.v as u64 + s.clips.i as u64 * 4294967296,
+        clips: s.clips.v + s.clips.i * 65536,
     }
 }
 
@@ -88,8 +89,8 @@ fn sums_after(mut s: Sums, t: Tally, raw: i32) -> Sums
 {
     let flow = t.flow;
     let clips = Clips {
-        v: (t.clips % 4294967296) as u32,
-        i: (t.clips / 4294967296) as u32,
+        v: t.clips % 65536,
+        i: t.clips / 65536,
     };
     s.vv = t.vv;
     s.flow = flow;
@@ -100,11 +101,11 @@ fn sums_after(mut s: Sums, t: Tally, raw: i32) -> Sums
 }
 
 // Whether a sample's voltage, and its current, was clipped is counted without a branch.
-fn count(n: u64, v: bool, i: bool) -> u64
-    requires { ⌜ n ≤ 4096 * 4294967297 ⌝ }
+fn count(n: u32, v: bool, i: bool) -> u32
+    requires { ⌜ n ≤ 4096 * 65537 ⌝ }
     ensures { λ r. ⌜ r ≡ oneMore n v i ⌝ }
 {
-    n + v as u64 + i as u64 * 4294967296
+    n + v as u32 + i as u32 * 65536
 }
 
 // v the corrected voltage, i the current corrected and mixed, and whether it was clipped before it was mixed.

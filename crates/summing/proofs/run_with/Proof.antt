@@ -46,7 +46,7 @@ abbrev μ-loop : tie.MeasureT-loop
 μ-loop s₀ p first v i old₀ t₀ k₀ old t k = length v - k
 
 tally-of-requires : tie.Need-tally-of-requires Inv-loop μ-loop
-tally-of-requires c κs = search needs
+tally-of-requires c κs = spare-room (c .args .s0) _ (c .pre .0 .1) .clips
 
 loop-holds : tie.Need-loop-holds Inv-loop μ-loop
 loop-holds c =

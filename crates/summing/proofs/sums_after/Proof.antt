@@ -1,19 +1,12 @@
 -- `sums_after` meets its contract.
 use mir.Facts.{toZ-ofZ}
 use Rattle.summing.specs.Inside.{unpacked, tallied}
-use borrow.Author.Needs.{needs}
 use Rattle.summing.proofs.sums_after.Statement.{statement}
 use Rattle.summing.proofs.sums_after.Tie as tie
-
-cast-t7 : tie.Need-cast-t7
-cast-t7 c = search needs
-
-cast-t9 : tie.Need-cast-t9
-cast-t9 c = search needs
 
 returns : tie.Need-returns
 unfolding tallied unpacked
 returns c = rw (toZ-ofZ (c .before .before .before .fits .raw))
 
 pub sums-after-spec : {M : Type 1} → statement M
-sums-after-spec = tie.close (tie.spec cast-t7 cast-t9 returns)
+sums-after-spec = tie.close (tie.spec returns)
