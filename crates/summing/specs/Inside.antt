@@ -31,12 +31,12 @@ probedAll p s (x ∷ xs) = probedAll p (probed p s x) xs
 
 -- ---- the tally
 
--- both counts in one number, and back
+-- both counts in one number, and back: each is at most 4,096
 unfoldable pub packed : Clips → ℕ
-packed k = k .v + k .i * 65536
+packed k = k .v + k .i * 4097
 
 unfoldable pub unpacked : ℕ → Clips
-unpacked n = record { v = n % 65536; i = n / 65536 }
+unpacked n = record { v = n % 4097; i = n / 4097 }
 
 -- what the loop keeps of the sums; and the sums again, with the raw current of the last sample
 unfoldable pub tallyOf : Sums → Tally
@@ -47,7 +47,7 @@ tallied t raw = record { vv = t .vv; flow = t .flow; clips = unpacked (t .clips)
 
 -- one sample more
 unfoldable pub oneMore : ℕ → Bool → Bool → ℕ
-oneMore n v i = n + oneIf v + oneIf i * 65536
+oneMore n v i = n + oneIf v + oneIf i * 4097
 
 unfoldable pub joinedTo : Tally → ℤ → ℤ → Bool → Bool → Tally
 joinedTo t v i v-clipped i-clipped = record {
@@ -60,4 +60,4 @@ joinedTo t v i v-clipped i-clipped = record {
 pub record Small (t : Tally) : Type 0 where
   pub vv : t .vv ≤ 4096 * 2 ^ 46
   pub flow : Flowing (t .flow) 4096
-  pub clips : t .clips ≤ 4096 * 65537
+  pub clips : t .clips ≤ 4096 * 4098

@@ -63,7 +63,7 @@ fn join(f: Flow, v: i32, i: i32) -> Flow
     }
 }
 
-// What the loop adds up: as the sums, but both counts stand in one number, that of the currents from 2^16 on, since the machine has few
+// What the loop adds up: as the sums, but both counts stand in one number, that of the currents times 4,097, since the machine has few
 // registers; and the raw current is left to the end.
 pub struct Tally {
     pub vv: u64,
@@ -79,7 +79,7 @@ fn tally_of(s: Sums) -> Tally
     Tally {
         vv: s.vv,
         flow,
-        clips: s.clips.v + s.clips.i * 65536,
+        clips: s.clips.v + s.clips.i * 4097,
     }
 }
 
@@ -89,8 +89,8 @@ fn sums_after(mut s: Sums, t: Tally, raw: i32) -> Sums
 {
     let flow = t.flow;
     let clips = Clips {
-        v: t.clips % 65536,
-        i: t.clips / 65536,
+        v: t.clips % 4097,
+        i: t.clips / 4097,
     };
     s.vv = t.vv;
     s.flow = flow;
@@ -102,10 +102,10 @@ fn sums_after(mut s: Sums, t: Tally, raw: i32) -> Sums
 
 // Whether a sample's voltage, and its current, was clipped is counted without a branch.
 fn count(n: u32, v: bool, i: bool) -> u32
-    requires { ⌜ n ≤ 4096 * 65537 ⌝ }
+    requires { ⌜ n ≤ 4096 * 4098 ⌝ }
     ensures { λ r. ⌜ r ≡ oneMore n v i ⌝ }
 {
-    n + v as u32 + i as u32 * 65536
+    n + v as u32 + i as u32 * 4097
 }
 
 // v the corrected voltage, i the current corrected and mixed, and whether it was clipped before it was mixed.
