@@ -96,6 +96,7 @@ impl Sums {
     pub fn emptied(self) -> Sums
         ensures { λ r. ⌜ r ≡ emptied self ⌝ }
     {
+        let clips = Clips { v: 0, i: 0 };
         Sums {
             vv: 0,
             flow: Flow {
@@ -103,7 +104,7 @@ impl Sums {
                 vi: 0,
                 peak: 0,
             },
-            clips: Clips { v: 0, i: 0 },
+            clips,
             seen: self.seen,
             raw: self.raw,
         }
