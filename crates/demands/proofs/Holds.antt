@@ -1,6 +1,6 @@
 -- A hold tells of the interval that closed last.
 use Prim.Native.Nat.{ℕ, _≤_}
-use mathlib.Core.Path.{_≡_, refl, sym, ap, subst, _∙_}
+use mathlib.Core.Path.{_≡_, refl, sym, ap, _∙_}
 use mathlib.Core.Bool.{Bool, true, false, cond}
 use mathlib.Core.List.{List, [], _∷_, _++_, foldl-append}
 use mathlib.Core.Option.{Option, none, some}
@@ -20,7 +20,7 @@ use Rattle.aberzhan.specs.Ports.{ports, aberzhan}
 use Rattle.aberzhan.specs.Module.{portAt, freshModule, holdOf}
 use Rattle.aberzhan.specs.Calls.{stateOf, callHold, numberOf, returned}
 use Rattle.aberzhan.proofs.Contracts.{allowed-is}
-use Rattle.demands.specs.Program.{first, steps, closes}
+use Rattle.demands.specs.Program.{first, steps}
 use Rattle.demands.specs.Holds.{lastly, toldOf, HoldsTell}
 use Rattle.demands.proofs.Demand3.{of-start, module-demand3}
 

@@ -1,16 +1,12 @@
 -- A corrected sample is in the 24-bit range, and so is a mix of two such.
 use Prim.Native.Nat.{ℕ, suc, _+_, _*_, _-_, _<_, _≤_}
 use mathlib.Core.Path.{_≡_}
-use native.Mathlib.Nat.{mul-le-mul-left, le-refl}
+use native.Mathlib.Nat.{mul-le-mul-left}
 use native.Mathlib.Omega.{arith}
 use lib.IntN.{ℤ, pos, negsuc, _+ℤ_, _-ℤ_, _*ℤ_}
 use lib.Signed.{mag}
-use mir.Syntax.{w16, w32, w64}
-use mir.Val.{Fits, SFits, toZ}
-use mir.Facts.{toZ-pos}
 use Rattle.number.specs.Rounding.{floorDiv}
 use Rattle.number.proofs.Signed.{up, dn, signs, neg-is, add-is, diff-is}
-use Rattle.number.proofs.Fits.{Size, size-of, size-nat, size-add, size-sub, size-mul, size-fits, ranges}
 use Rattle.range.proofs.Ranges.{clipped-mag}
 use Rattle.sample.specs.Sample.{scaled, corrected, mixed}
 

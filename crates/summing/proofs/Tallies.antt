@@ -1,15 +1,13 @@
 -- The loop's tally is that of the sums: one sample more of either, and the sums again at the end.
-use Prim.Native.Nat.{ℕ, _+_, _*_, _≤_}
-use mathlib.Core.Path.{_≡_, refl, sym, ap, ap₂}
+use Prim.Native.Nat.{ℕ}
+use mathlib.Core.Path.{_≡_, sym, ap₂}
 use mathlib.Core.Bool.{Bool, true}
 use native.Mathlib.Omega.{arith}
 use lib.IntN.{ℤ}
 use Rattle.sample.specs.declared.Clips.{Clips}
-use Rattle.sample.specs.declared.Flow.{Flow}
 use Rattle.sample.specs.declared.Sums.{Sums}
-use Rattle.sample.specs.Sums.{oneIf, counted, summed}
+use Rattle.sample.specs.Sums.{counted, summed}
 use Rattle.sample.specs.Inside.{Few, Room}
-use Rattle.summing.specs.declared.Tally.{Tally}
 use Rattle.summing.specs.Inside.{packed, unpacked, tallyOf, tallied, oneMore, joinedTo, Small}
 
 packed-more : (k : Clips) (x y : Bool) → oneMore (packed k) x y ≡ packed (counted k x y)

@@ -20,7 +20,7 @@ use Rattle.sample.specs.Sample.{correction, corrected, wasClipped, mixed}
 use Rattle.sample.proofs.Corrections.{mixed-in, corrected-in}
 use Rattle.sample.specs.Sums.{previous, summed}
 use Rattle.summing.specs.declared.Tally.{Tally}
-use Rattle.summing.specs.Inside.{probedAll, probed, tallyOf, tallied, joinedTo}
+use Rattle.summing.specs.Inside.{probedAll, probed, tallyOf}
 use Rattle.summing.proofs.Tallies.{tally-more, small-of, tally-end}
 use Rattle.sample.specs.Sums.{samplesIn}
 use Rattle.sample.specs.Inside.{Spare}
