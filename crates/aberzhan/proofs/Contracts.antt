@@ -14,7 +14,7 @@ use Rattle.aberzhan.specs.declared.Holding.{Holding}
 use Rattle.aberzhan.specs.declared.Looked.{Looked}
 use Rattle.aberzhan.specs.declared.Cards.{Cards}
 use Rattle.aberzhan.specs.Ports.{aberzhan}
-use Rattle.aberzhan.specs.Module.{startOf}
+use Rattle.aberzhan.specs.Module.{startOf, holdOf}
 use Rattle.aberzhan.specs.Cards.{cardsOf}
 use Rattle.aberzhan.specs.Calls.{stateOf, Call, callOpen, callWrite, callCommit, callDrop, callHold, callRead, callBlock, stepOf, callOf, fromStep, fromHold, fromRead, returned, program}
 use Rattle.aberzhan.proofs.Module.start.Kinds as starts-k
@@ -47,6 +47,10 @@ Starts n b track r =
 -- `Module::cards` of the module m may return r
 abbrev pub Shows : Module → Cards → Type 0
 Shows m r = (κs : Lfts 0) × (a : Dens κs cards-k.ps) × Allowed 0 cards-k.ps cards-k.r cards.Post κs a r × (a .0 ≡ m)
+
+-- `Module::hold` of the module m, at the port p, may return r
+abbrev pub Holds : Module → ℤ → Holding → Type 0
+Holds m p r = (κs : Lfts 0) × (a : Dens κs holds-k.ps) × Allowed 0 holds-k.ps holds-k.r holds.Post κs a r × (a .0 ≡ m) × (a .1 .0 ≡ p)
 
 -- the call's method may return the reply and the module o; its first parameter is the module m, and the others are the call's
 abbrev pub Allows : Call → Module → Reply aberzhan × Module → Type 0
@@ -83,6 +87,9 @@ start-is n b track r (κs, a, h, e, f, g) = rw (e, f, g) at (h .allowed)
 
 pub shown-is : (m : Module) (r : Cards) → Shows m r → r ≡ cardsOf m
 shown-is m r (κs, a, h, e) = rw e at (h .allowed)
+
+pub held-by : (m : Module) (p : ℤ) (r : Holding) → Holds m p r → r ≡ holdOf m p
+held-by m p r (κs, a, h, e, f) = rw (e, f) at (h .allowed)
 
 pub allowed-is : (k : Call) (m : Module) (o : Reply aberzhan × Module) → Allows k m o → o ≡ returned k m
 allowed-is (callOpen p text) m o (κs, a, r, h, e, f, g, q) = q ∙ ap fromStep (rw (e, f, g) at (h .allowed))

@@ -4,4 +4,5 @@ pub mod Steps
 pub mod Soundness
 pub mod Decided
 pub mod Contracts
+pub mod Told
 pub mod Agreement

@@ -9,8 +9,8 @@ use Rattle.steps.specs.declared.Answer.the-variants.{Done, Refused}
 use Rattle.serial.specs.Serials.{noSerial}
 use Rattle.card.specs.declared.Card.{Card}
 use Rattle.address.specs.declared.WordAddr.{WordAddr}
-use Rattle.sample.specs.Sums.{noClips}
 use Rattle.address.specs.declared.ByteAddr.{ByteAddr}
+use Rattle.sample.specs.Sums.{noClips}
 use Rattle.meter.specs.declared.Meter.{Meter}
 use Rattle.meter.specs.Blocks.{waitOf, blockOf as meterBlock}
 use Rattle.meter.specs.Starting.{startOf as meterStart}
@@ -89,8 +89,8 @@ dropOf m port = atPort (portAt port) (refusal 8 m) (λ p. atDesk m p (dropping (
 
 -- ---- readings
 
--- hold: 8, 14. Returns the interval's number, its serial and its counts of clipped samples, and replaces an earlier hold; 0 and no serial if it is
--- refused.
+-- hold: 8, 14. Returns the interval's number, its serial and its counts of clipped samples, and replaces an earlier hold; no serial and
+-- all three 0 if it is refused.
 abbrev pub notHeld : ℕ → Module → Holding
 notHeld n m = record { answer = Refused n; number = 0; serial = noSerial; clips = noClips; after = m }
 

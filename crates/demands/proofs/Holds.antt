@@ -1,12 +1,11 @@
 -- A hold tells of the interval that closed last.
 use Prim.Native.Nat.{ℕ, _≤_}
-use mathlib.Core.Path.{_≡_, refl, sym, ap, _∙_}
+use mathlib.Core.Path.{_≡_, refl, sym, ap, subst, _∙_}
 use mathlib.Core.Bool.{Bool, true, false, cond}
 use mathlib.Core.List.{List, [], _∷_, _++_, foldl-append}
 use mathlib.Core.Option.{Option, none, some}
-use Rattle.steps.specs.Port.{Port, port0, port1}
+use Rattle.steps.specs.Port.{Port}
 use Rattle.steps.specs.Module.{State}
-use Rattle.steps.specs.Calls.{Reply}
 use Rattle.steps.proofs.Work.{LastingWork, always-work}
 use Rattle.card.specs.declared.Card.{Card}
 use Rattle.address.specs.declared.WordAddr.{WordAddr}
@@ -14,14 +13,15 @@ use Rattle.interval.specs.declared.Closed.{Closed}
 use Rattle.meter.specs.declared.Work.{Work}
 use Rattle.meter.specs.Core.{core, lastOf, closedWork}
 use Rattle.meter.specs.Starting.{freshOf}
-use Rattle.port.specs.Holds.{copyOf, copied}
 use Rattle.aberzhan.specs.declared.Module.{Module}
+use Rattle.aberzhan.specs.declared.Holding.{Holding}
 use Rattle.aberzhan.specs.Ports.{ports, aberzhan}
-use Rattle.aberzhan.specs.Module.{portAt, freshModule, holdOf}
-use Rattle.aberzhan.specs.Calls.{stateOf, callHold, numberOf, returned}
-use Rattle.aberzhan.proofs.Contracts.{allowed-is}
+use Rattle.aberzhan.specs.Module.{freshModule}
+use Rattle.aberzhan.specs.Calls.{stateOf, numberOf}
+use Rattle.aberzhan.proofs.Contracts.{Holds}
+use Rattle.aberzhan.proofs.Told.{hold-tells, hold-refused}
 use Rattle.demands.specs.Program.{first, steps}
-use Rattle.demands.specs.Holds.{lastly, toldOf, HoldsTell}
+use Rattle.demands.specs.Holds.{lastly, Telling, HoldsTell}
 use Rattle.demands.proofs.Demand3.{of-start, module-demand3}
 
 -- the interval that the work shows as the last
@@ -44,19 +44,15 @@ fresh-shown : (n b : ℕ) (track : List WordAddr) → 1 ≤ n → n ≤ 4096 →
 unfolding freshModule freshOf
 fresh-shown n b track n1 n2 = refl
 
-hold-by : (m : Module) (q : Port) (b : Bool) → m .meter .work .any ≡ b → returned (callHold (numberOf (some q))) m .0 ≡ toldOf (cond b (some (m .meter .work .last)) none)
-unfolding holdOf portAt copied copyOf
-hold-by m port0 true e = rw e
-hold-by m port0 false e = rw e
-hold-by m port1 true e = rw e
-hold-by m port1 false e = rw e
+by-any : (m : Module) (q : Port) (r : Holding) → Holds m (numberOf (some q)) r → (b : Bool) → m .meter .work .any ≡ b →
+    Telling (cond b (some (m .meter .work .last)) none) r
+by-any m q r h true e = hold-tells m q r h e
+by-any m q r h false e = hold-refused m q r h e
 
 pub holds-tell : HoldsTell
-holds-tell p q o a =
+holds-tell p q r h =
     let m = p .log .end in
     let begun = of-start (λ (m : Module). shown (m .meter .work) ≡ none) fresh-shown p in
     let ends = always-work core lasts ports (stateOf (first p)) (steps p) begun in
     let same = ap (λ (s : State aberzhan). s .meter .work) (module-demand3 p .calls .end) in
-    ap (λ (o : Reply aberzhan × Module). o .0) (allowed-is (callHold (numberOf (some q))) m o a)
-    ∙ hold-by m q (m .meter .work .any) refl
-    ∙ ap toldOf (ap shown same ∙ ends)
+    subst (λ (z : Option Closed). Telling z r) (ap shown same ∙ ends) (by-any m q r h (m .meter .work .any) refl)

@@ -2,23 +2,22 @@
 use Prim.Native.Nat.{ℕ, suc, _≤_}
 use mathlib.Core.List.{List, [], _∷_}
 use lib.ListN.{length}
-use Rattle.range.specs.Range.{Outside}
 use Rattle.card.specs.declared.Card.{Card}
 use Rattle.sample.specs.Fields.{voffs, ioffs, vgain, igain}
-use Rattle.sample.specs.Sample.{scaled}
+use Rattle.sample.specs.Sample.{Beyond}
 use Rattle.sample.specs.Sums.{Sample}
 use Rattle.interval.specs.declared.Closed.{Closed}
 
 -- n of the samples are so, and the others are not
 pub data HowMany (So : Sample → Type 0) : List Sample → ℕ → Type 0 where
-  none : HowMany So [] 0
+  no-more : HowMany So [] 0
   this : {x : Sample} {xs : List Sample} {n : ℕ} → So x → HowMany So xs n → HowMany So (x ∷ xs) (suc n)
   not-this : {x : Sample} {xs : List Sample} {n : ℕ} → (So x → ⊥) → HowMany So xs n → HowMany So (x ∷ xs) n
 
--- the interval z has these raw samples, worked by card c: each count is of those whose value before clipping is beyond an end of the 24-bit
--- range. The raw current before the first sample has no part in it, nor has any interval before
+-- the interval z has these raw samples, worked by card c: each count is of those that the card brings beyond the 24-bit range, and so at most as
+-- many as there are. The raw current before the first sample has no part in it, nor has any interval before
 pub record ClippedBy (c : Card) (xs : List Sample) (z : Closed) : Type 0 where
-  pub voltages : HowMany (λ x. Outside (scaled (x .0) (voffs c) (vgain c))) xs (z .clips .v)
-  pub currents : HowMany (λ x. Outside (scaled (x .1) (ioffs c) (igain c))) xs (z .clips .i)
+  pub voltages : HowMany (λ x. Beyond (x .0) (voffs c) (vgain c)) xs (z .clips .v)
+  pub currents : HowMany (λ x. Beyond (x .1) (ioffs c) (igain c)) xs (z .clips .i)
   pub v-most : z .clips .v ≤ length xs
   pub i-most : z .clips .i ≤ length xs

@@ -159,13 +159,18 @@ clipFigures =
     ∷ (clippedIn (having 1 (pos 1) plain) ((negsuc 8388607, negsuc 8388607) ∷ (negsuc 8388606, pos 0) ∷ []), 1 ∷ 0 ∷ [])
     ∷ (clippedIn (having 2 (negsuc 0) plain) ((pos 8388607, pos 8388607) ∷ (pos 0, pos 8388606) ∷ []), 0 ∷ 1 ∷ [])
     ∷ (clippedIn (having 2 (pos 1) plain) ((negsuc 8388607, negsuc 8388607) ∷ (pos 0, negsuc 8388606) ∷ []), 0 ∷ 1 ∷ [])
-    -- gain two: 8,388,608 and -8,388,610 are beyond, 8,388,606 and -8,388,608 are not
+    -- gain two for the voltage alone, and for the current alone
+    ∷ (clippedIn (having 3 (pos 4194304) plain) ((pos 4194304, pos 4194304) ∷ []), 1 ∷ 0 ∷ [])
+    ∷ (clippedIn (having 4 (pos 4194304) plain) ((pos 4194304, pos 4194304) ∷ []), 0 ∷ 1 ∷ [])
+    -- for both: 8,388,608 and -8,388,610 are beyond, 8,388,606 and -8,388,608 are not
     ∷ (
       clippedIn doubled ((pos 4194304, pos 4194303) ∷ (negsuc 4194304, negsuc 4194303) ∷ (pos 4194303, negsuc 4194304) ∷ []),
       2 ∷ 1 ∷ [],
     )
     -- the value is rounded down first: 8,388,607.5 and -8,388,607.5 become ends of the range, -8,388,609 is beyond
     ∷ (clippedIn byHalfMore ((pos 5592405, negsuc 5592404) ∷ (negsuc 5592404, negsuc 5592405) ∷ []), 0 ∷ 1 ∷ [])
+    -- gain one and a quarter: -8,388,608.75 becomes -8,388,609, which is beyond
+    ∷ (clippedIn (having 4 (pos 2621440) plain) ((pos 0, negsuc 6710886) ∷ (pos 0, negsuc 6710885) ∷ []), 0 ∷ 1 ∷ [])
     -- the previous current is not counted again, and a module's first sample, which is its own previous one, counts once
     ∷ (clippedIn (having 5 (pos 2048) doubled) ((pos 0, pos 8388607) ∷ (pos 0, pos 0) ∷ []), 0 ∷ 1 ∷ [])
     ∷ (clippedIn (having 5 (pos 2048) doubled) ((pos 0, pos 0) ∷ (pos 0, negsuc 8388607) ∷ []), 0 ∷ 1 ∷ [])

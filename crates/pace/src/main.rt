@@ -8,7 +8,7 @@ use libc::STDOUT_FILENO;
 use port::Reading;
 use steps::Answer;
 
-// VRMS and the six figures, and both counts, by their byte addresses.
+// VRMS and the six figures, and both energy counts, by their byte addresses.
 const REGISTERS: [i64; 9] = [0x81, 0xBA, 0xD2, 0xE1, 0xEA, 0x12F, 0x1A1, 0x1AD, 0x1B6];
 
 // Fields 1 to 8; with these gains some samples are clipped.

@@ -1,6 +1,7 @@
 -- Laws of samples.
 pub mod Corrections
 pub mod Mixing
+pub mod Clipped
 pub mod Ranges
 pub mod Rooms
 pub mod Slices

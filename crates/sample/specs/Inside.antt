@@ -14,6 +14,7 @@ pub record Flowing (f : Flow) (k : ℕ) : Type 0 where
   pub ii : f .ii ≤ k * 2 ^ 46
   pub vi : natAbs (f .vi) ≤ k * 2 ^ 46
 
+-- no more than k were clipped
 pub record Few (c : Clips) (k : ℕ) : Type 0 where
   pub v : c .v ≤ k
   pub i : c .i ≤ k

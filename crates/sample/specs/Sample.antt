@@ -2,7 +2,9 @@
 use Prim.Native.Nat.{ℕ}
 use mathlib.Core.Bool.{Bool, true, _&&_}
 use mathlib.Core.List.{List, [], _∷_}
-use lib.IntN.{ℤ, pos, _+ℤ_, _-ℤ_, _*ℤ_}
+use mathlib.Core.Logic.{_⊎_}
+use lib.IntN.{ℤ, pos, negsuc, _+ℤ_, _-ℤ_, _*ℤ_}
+use lib.Signed.{_≤ℤ_, _<ℤ_}
 use Rattle.range.specs.Range.{in24, outside24, clipped}
 use Rattle.number.specs.Rounding.{floorDiv}
 use Rattle.card.specs.declared.Card.{Card}
@@ -25,6 +27,11 @@ corrected raw offset gain = clipped (scaled raw offset gain)
 -- whether the value before clipping lay outside the 24-bit range (document 02, A2)
 unfoldable pub wasClipped : ℤ → ℤ → ℤ → Bool
 wasClipped raw offset gain = outside24 (scaled raw offset gain)
+
+-- the same without a quotient: (raw - offset) times gain is below -8,388,608 times 2^21, which is -2^44, or not below 8,388,608 times 2^21, which is
+-- 2^44 (`negsuc n` is -(n + 1)). `proofs/Clipped.antt` shows that a sample was clipped just if it is so
+abbrev pub Beyond : ℤ → ℤ → ℤ → Type 0
+Beyond raw offset gain = let z = (raw -ℤ offset) *ℤ gain in (z <ℤ negsuc 17592186044415) ⊎ (pos 17592186044416 ≤ℤ z)
 
 -- to correct a sample gives both
 unfoldable pub correction : ℤ → ℤ → ℤ → Corrected

@@ -74,7 +74,7 @@ emptied s = record { vv = 0; flow = noFlow; clips = noClips; seen = s .seen; raw
 abbrev pub noSums : Sums
 noSums = record { vv = 0; flow = noFlow; clips = noClips; seen = false; raw = pos 0 }
 
--- ---- where no sum can pass 64 bits
+-- ---- where no sum can pass 64 bits, and no count 32
 
 -- these can be the sums of at most n samples, and n is no more than an interval can have: no sum is over n times 2^46, the greatest square and
 -- the greatest product of numbers of the 24-bit range, and no more than n were clipped

@@ -11,7 +11,7 @@ pub struct Corrected {
     pub clipped: bool,
 }
 
-// (raw - offset) times gain / 2^21, rounded down and clipped. No i32 makes it overflow.
+// (raw - offset) times gain / 2^21, rounded down and clipped, and whether clipping changed it. No i32 makes it overflow.
 pub fn correct(raw: i32, offset: i32, gain: i32) -> Corrected
     ensures { λ r. ⌜ r ≡ correction raw offset gain ⌝ }
 {
@@ -110,7 +110,7 @@ impl Sums {
         }
     }
 
-    // Whether these can be the sums of at most n samples: then none can pass 64 bits.
+    // Whether these can be the sums of at most n samples: then none can pass 64 bits, and no count 32.
     pub fn of_at_most(self, n: u32) -> bool
         ensures { λ r. ⌜ r ≡ ofAtMost n self ⌝ }
     {

@@ -63,8 +63,8 @@ fn join(f: Flow, v: i32, i: i32) -> Flow
     }
 }
 
-// What the loop adds up: as the sums, but both counts stand in one number, that of the currents times 4,097, since the machine has few
-// registers; and the raw current is left to the end.
+// What the loop adds up: as the sums, but both counts stand in one number, since the machine has few registers: that of the currents times
+// 4,097, for each is at most 4,096. And the raw current is left to the end.
 pub struct Tally {
     pub vv: u64,
     pub flow: Flow,
@@ -83,7 +83,8 @@ fn tally_of(s: Sums) -> Tally
     }
 }
 
-// The sums s after the loop, which has left its tally; raw is the raw current of the last sample.
+// The sums s after the loop, which has left its tally; raw is the raw current of the last sample. (s is lent its place: the loop's invariant
+// speaks of the sums that it began with.)
 fn sums_after(mut s: Sums, t: Tally, raw: i32) -> Sums
     ensures { λ r. ⌜ r ≡ tallied t raw ⌝ }
 {
@@ -141,8 +142,8 @@ fn corrected_before(s: Sums, p: Probe, raw: i32) -> i32
     if s.seen {
         before = s.raw;
     }
-    let c = correct(before, p.ioffs, p.igain);
-    c.value
+    let old = correct(before, p.ioffs, p.igain);
+    old.value
 }
 
 // The samples of two slices, one after another; first is the corrected current before the first of them.
