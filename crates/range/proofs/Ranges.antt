@@ -1,17 +1,17 @@
 -- The 24-bit range: a clipped number is in it, a number in it is its own clip, and what clipping does to both signs.
 use mathlib.Core.Path.{_≡_, refl, sym, ap, subst, _∙_}
 use mathlib.Core.Bool.{Bool, true, false, not, cond, _&&_, false≢true}
-use mathlib.Core.Logic.{inl, inr}
+use mathlib.Core.Logic.{_⊎_, inl, inr}
 use Prim.Native.Nat.{ℕ, _<_, min}
 use native.Mathlib.Omega.{arith}
 use lib.IntN.{ℤ, pos, negsuc}
 use lib.Dec.{leb, eqb, lt→ltb}
-use lib.Signed.{mag, ltZ, leZ, clashℤ}
+use lib.Signed.{mag, ltZ, leZ, _<ℤ_, clashℤ}
 use borrow.Author.Tests.{leb-false, eq-eqb, ne-eqb, not-true, not-false}
 use mir.Syntax.{w32, w64}
 use mir.Val.{SFits, toZ, ofZ}
 use mir.Facts.{toZ-ofZ}
-use Rattle.range.specs.Range.{low, high, in24, outside24, heldWithin, clipped, capped, InRange, Outside}
+use Rattle.range.specs.Range.{low, high, in24, outside24, heldWithin, clipped, capped, InRange}
 use Rattle.number.proofs.Signed.{up, dn, norm, signs, cond-is, ltZ-true, ltZ-false, le-in, le-out}
 use Rattle.number.proofs.Fits.{Size, widen}
 
@@ -68,6 +68,9 @@ in24-in z e = go (leZ low z) (leZ z high) refl refl e
     go false b p q e = absurd (false≢true e)
 
 -- a number outside it is beyond an end
+abbrev pub Outside : ℤ → Type 0
+Outside z = (z <ℤ low) ⊎ (high <ℤ z)
+
 pub outside-yes : (z : ℤ) → outside24 z ≡ true → Outside z
 unfolding outside24 in24
 outside-yes (pos n) e = inr (record { lt = lt→ltb 8388607 n (leb-false n 8388607 (not-true (leb n 8388607) e)) })

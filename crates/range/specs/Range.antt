@@ -1,9 +1,8 @@
 -- The 24-bit range, -8,388,608 to 8,388,607, and what it is to clip.
 use Prim.Native.Nat.{ℕ, min}
 use mathlib.Core.Bool.{Bool, not, cond, _&&_}
-use mathlib.Core.Logic.{_⊎_}
 use lib.IntN.{ℤ, pos, negsuc}
-use lib.Signed.{ltZ, leZ, _≤ℤ_, _<ℤ_}
+use lib.Signed.{ltZ, leZ, _≤ℤ_}
 
 -- -8,388,608: `negsuc n` is -(n + 1)
 abbrev pub low : ℤ
@@ -39,7 +38,3 @@ capped n = min n most
 pub record InRange (z : ℤ) : Type 0 where
   pub above : low ≤ℤ z
   pub below : z ≤ℤ high
-
--- z is beyond an end of it
-abbrev pub Outside : ℤ → Type 0
-Outside z = (z <ℤ low) ⊎ (high <ℤ z)

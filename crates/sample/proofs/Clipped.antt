@@ -8,8 +8,8 @@ use lib.IntN.{ℤ, pos, negsuc, _-ℤ_, _*ℤ_}
 use lib.Signed.{_≤ℤ_, _<ℤ_}
 use Rattle.number.specs.Rounding.{floorDiv}
 use Rattle.number.proofs.Signed.{le-in, lt-in, le-out, lt-out}
-use Rattle.range.specs.Range.{low, high, Outside, InRange}
-use Rattle.range.proofs.Ranges.{outside-yes, outside-no}
+use Rattle.range.specs.Range.{low, high, InRange}
+use Rattle.range.proofs.Ranges.{Outside, outside-yes, outside-no}
 use Rattle.sample.specs.Sample.{scaled, wasClipped, Beyond}
 
 abbrev Far : ℤ → Type 0
