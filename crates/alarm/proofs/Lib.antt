@@ -1,0 +1,8 @@
+-- Laws of the window and the alarms.
+pub mod Windows
+pub mod Sums
+pub mod Comparing
+pub mod Parts
+pub mod Tests
+pub mod Starts
+pub mod Decided

@@ -1,0 +1,34 @@
+-- The start of the watch: W 1 to 512, VSAG and VSURGE 0 to 8,388,607, and a mask of alarms that stay set; otherwise 7.
+use mathlib.Core.Bool.{Bool, true, false, cond, _&&_}
+use lib.IntN.{ℤ, pos, natAbs}
+use lib.Signed.{leZ}
+use Rattle.alarm.specs.declared.Asked.{Asked}
+use Rattle.alarm.specs.declared.Limits.{Limits}
+use Rattle.alarm.specs.declared.Watch.{Watch}
+use Rattle.alarm.specs.declared.Started.{Started}
+use Rattle.alarm.specs.Masks.{onlyAlarms, noAlarms, namedBy}
+
+unfoldable pub numbersOk : ℤ → ℤ → ℤ → Bool
+numbersOk w vsag vsurge =
+    leZ (pos 1) w && leZ w (pos 512) && leZ (pos 0) vsag && leZ vsag (pos 8388607) && leZ (pos 0) vsurge && leZ vsurge (pos 8388607)
+
+unfoldable pub askedOk : Asked → Bool
+askedOk q = numbersOk (q .w) (q .vsag) (q .vsurge) && onlyAlarms (q .sticky)
+
+unfoldable pub limitsOf : ℤ → ℤ → ℤ → ℤ → Limits
+limitsOf w vsag vsurge sticky = record { w = natAbs w; vsag = natAbs vsag; vsurge = natAbs vsurge; sticky = namedBy sticky }
+
+-- nothing seen, no alarm
+abbrev pub freshWatch : Limits → Watch
+freshWatch t = record { limits = t; at = 0; seen = 0; sum = 0; alarms = noAlarms }
+
+-- W 1, both levels 0, no alarm stays set
+abbrev pub lowestLimits : Limits
+lowestLimits = record { w = 1; vsag = 0; vsurge = 0; sticky = noAlarms }
+
+abbrev pub lowestWatch : Watch
+lowestWatch = freshWatch lowestLimits
+
+unfoldable pub startOf : Asked → Started
+startOf q =
+    cond (askedOk q) (record { ok = true; watch = freshWatch (limitsOf (q .w) (q .vsag) (q .vsurge) (q .sticky)) }) (record { ok = false; watch = lowestWatch })

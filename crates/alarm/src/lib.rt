@@ -1,0 +1,382 @@
+// Sag and surge on the half cycle: the last W corrected voltages with the sum of their squares, the two alarms, and a reset.
+ghost use mathlib.Core.Path.{_≡_};
+ghost use mathlib.Core.Bool.{true, _&&_};
+ghost use Prim.Native.Nat.{_+_, _*_, _^_, _≤_, _<_, min};
+ghost use lib.Dec.{eqb};
+ghost use lib.ListN.{length};
+ghost use lib.Signed.{mag};
+ghost use Rattle.number.specs.Sign.{squareOf};
+ghost use Rattle.sample.specs.Sample.{every24};
+ghost use Rattle.alarm.specs.Masks.{onlyAlarms, namedBy};
+ghost use Rattle.alarm.specs.Alarms.{both, resetOf};
+ghost use Rattle.alarm.specs.Starting.{numbersOk, limitsOf, freshWatch, lowestWatch, startOf};
+ghost use Rattle.alarm.specs.Passing.{squares, seenAll, watchSound, passOf, voltsAfter};
+ghost use Rattle.alarm.specs.Inside.{swing, movedBy, sweptAll, trackOf, Kept, Ranged, Good, Uniform};
+use card::Card;
+use card::names::VGAIN;
+use card::names::VOFFS;
+use sample::correct;
+use steps::Answer;
+
+// A set of the two alarms: those that are set, those that stay set, those that a reset names.
+pub struct Alarms {
+    pub sag: bool,
+    pub surge: bool,
+}
+
+// What a start asks for: W, the samples in half a cycle; VSAG and VSURGE, 0 is off; the mask of the alarms that stay set.
+pub struct Asked {
+    pub w: i64,
+    pub vsag: i64,
+    pub vsurge: i64,
+    pub sticky: i64,
+}
+
+// The same, in range.
+pub struct Limits {
+    pub w: u32,
+    pub vsag: u32,
+    pub vsurge: u32,
+    pub sticky: Alarms,
+}
+
+// The last W corrected voltages stand apart, in an array of 512. at: the place of the oldest, where the next one goes; seen: how many came, at
+// most W; sum: of their squares.
+pub struct Watch {
+    pub limits: Limits,
+    pub at: u32,
+    pub seen: u32,
+    pub sum: u64,
+    pub alarms: Alarms,
+}
+
+// What a start makes of what is asked; at its lowest where that is out of range.
+pub struct Started {
+    pub ok: bool,
+    pub watch: Watch,
+}
+
+// What a reset answers, and the watch after it: as it came, if refused.
+pub struct Reset {
+    pub answer: Answer,
+    pub after: Watch,
+}
+
+// The watch after voltages; where it is not ok, no steps have made it, and it is as it came.
+pub struct Passed {
+    pub ok: bool,
+    pub watch: Watch,
+}
+
+// ---- masks and the start
+
+// Not below 0, and no bit but 21, VA_SAG, and 9, VA_SURGE.
+fn only_alarms(mask: i64) -> bool
+    ensures { λ r. ⌜ r ≡ onlyAlarms mask ⌝ }
+{
+    let m = number::size(mask);
+    (0 <= mask) & (m == m / 2097152 % 2 * 2097152 + m / 512 % 2 * 512)
+}
+
+// The alarms that a mask names.
+fn named_by(mask: i64) -> Alarms
+    ensures { λ r. ⌜ r ≡ namedBy mask ⌝ }
+{
+    let m = number::size(mask);
+    Alarms {
+        sag: m / 2097152 % 2 == 1,
+        surge: m / 512 % 2 == 1,
+    }
+}
+
+// Nothing seen, no alarm.
+fn fresh(limits: Limits) -> Watch
+    ensures { λ r. ⌜ r ≡ freshWatch limits ⌝ }
+{
+    Watch {
+        limits,
+        at: 0,
+        seen: 0,
+        sum: 0,
+        alarms: Alarms {
+            sag: false,
+            surge: false,
+        },
+    }
+}
+
+// W 1, both levels 0, no alarm stays set.
+pub fn lowest() -> Watch
+    ensures { λ r. ⌜ r ≡ lowestWatch ⌝ }
+{
+    fresh(Limits {
+        w: 1,
+        vsag: 0,
+        vsurge: 0,
+        sticky: Alarms {
+            sag: false,
+            surge: false,
+        },
+    })
+}
+
+// Whether W and both levels are in range.
+fn in_limits(w: i64, vsag: i64, vsurge: i64) -> bool
+    ensures { λ r. ⌜ r ≡ numbersOk w vsag vsurge ⌝ }
+{
+    (1 <= w) & (w <= 512) & (0 <= vsag) & (vsag <= 8388607) & (0 <= vsurge) & (vsurge <= 8388607)
+}
+
+fn limits_of(w: i64, vsag: i64, vsurge: i64, sticky: i64) -> Limits
+    requires { ⌜ numbersOk w vsag vsurge ≡ true ⌝ }
+    ensures { λ r. ⌜ r ≡ limitsOf w vsag vsurge sticky ⌝ }
+{
+    let named = named_by(sticky);
+    Limits {
+        w: w as u32,
+        vsag: vsag as u32,
+        vsurge: vsurge as u32,
+        sticky: named,
+    }
+}
+
+// A start with what is asked for.
+pub fn start(asked: Asked) -> Started
+    ensures { λ r. ⌜ r ≡ startOf asked ⌝ }
+{
+    let w = asked.w;
+    let vsag = asked.vsag;
+    let vsurge = asked.vsurge;
+    let sticky = asked.sticky;
+    let mask = only_alarms(sticky);
+    if in_limits(w, vsag, vsurge) & mask {
+        let limits = limits_of(w, vsag, vsurge, sticky);
+        let watch = fresh(limits);
+        return Started { ok: true, watch };
+    }
+    let watch = lowest();
+    Started { ok: false, watch }
+}
+
+impl Watch {
+    // Clears the alarms that the mask names: 12.
+    pub fn reset(mut self, mask: i64) -> Reset
+        ensures { λ r. ⌜ r ≡ resetOf self mask ⌝ }
+    {
+        if only_alarms(mask) {
+            let named = named_by(mask);
+            let alarms = Alarms {
+                sag: self.alarms.sag & !named.sag,
+                surge: self.alarms.surge & !named.surge,
+            };
+            self.alarms = alarms;
+            return Reset {
+                answer: Answer::Done,
+                after: self,
+            };
+        }
+        Reset {
+            answer: Answer::Refused(12),
+            after: self,
+        }
+    }
+}
+
+// ---- voltages
+
+// What a voltage of one card is worked with, and what the sum is compared with.
+pub struct Track {
+    pub voffs: i32,
+    pub vgain: i32,
+    pub w: usize,
+    pub low: u64,
+    pub high: u64,
+}
+
+// What the loop keeps beside the voltages: the place of the oldest, the sum, and whether it was ever below, or above, after a voltage.
+pub struct Sweep {
+    pub at: usize,
+    pub sum: u64,
+    pub below: bool,
+    pub above: bool,
+}
+
+// A voltage has taken the place of the oldest.
+fn moved(t: Sweep, p: Track, new: i32, old: i32) -> Sweep
+    requires { ⌜ (t .at < 512) × (t .sum ≤ 512 * 2 ^ 46) × (mag new < 8388608) × (squareOf old ≤ t .sum) ⌝ }
+    ensures { λ r. ⌜ r ≡ movedBy p t new old ⌝ }
+{
+    let sum = t.sum + number::square(new) - number::square(old);
+    let next = t.at + 1;
+    let mut at = next;
+    if next == p.w {
+        at = 0;
+    }
+    Sweep {
+        at,
+        sum,
+        below: t.below | (sum < p.low),
+        above: t.above | (p.high < sum),
+    }
+}
+
+// Voltages, one after another: each takes the place of the oldest.
+fn slide(volts: &mut [i32; 512], s: Sweep, p: Track, v: &[i32]) -> Sweep
+    requires { ⌜ Kept (p .w) (s .at) (s .sum) (now volts) ⌝ }
+    ensures { λ r. ⌜ swing r (now (volts .exit)) ≡ sweptAll p (swing s (now (volts .entry))) (now (v .entry)) ⌝ }
+{
+    let mut t = s;
+    let mut k: usize = 0;
+    while k < v.len() {
+        let x = correct(v[k], p.voffs, p.vgain);
+        let at = t.at;
+        let old = volts[at];
+        let new = x.value;
+        volts[at] = new;
+        t = moved(t, p, new, old);
+        k += 1;
+    }
+    t
+}
+
+// W times a level squared.
+fn level_of(w: u32, level: u32) -> u64
+    requires { ⌜ (w ≤ 512) × (level ≤ 8388607) ⌝ }
+    ensures { λ r. ⌜ r ≡ w * (level * level) ⌝ }
+{
+    w as u64 * (level as u64 * level as u64)
+}
+
+// What voltages of a card are compared with; full: W were seen after each of them. Else, and where a level is off, with what no sum is below or
+// above.
+fn track_of(c: Card, t: Limits, full: bool) -> Track
+    requires { ⌜ Ranged t ⌝ }
+    ensures { λ r. ⌜ r ≡ trackOf c t full ⌝ }
+{
+    let f = c.fields;
+    let low = if full { level_of(t.w, t.vsag) } else { 0 };
+    let high = if full & (0 < t.vsurge) {
+        level_of(t.w, t.vsurge)
+    } else {
+        18446744073709551615
+    };
+    Track {
+        voffs: f[VOFFS],
+        vgain: f[VGAIN],
+        w: t.w as usize,
+        low,
+        high,
+    }
+}
+
+// How many were seen, at most w, after n more.
+fn seen_after(w: u32, seen: u32, n: usize) -> u32
+    requires { ⌜ (seen ≤ w) × (w ≤ 512) ⌝ }
+    ensures { λ r. ⌜ r ≡ min w (seen + n) ⌝ }
+{
+    if n < (w - seen) as usize {
+        seen + n as u32
+    } else {
+        w
+    }
+}
+
+// Voltages of one card; full: W were seen after each of them, or else after none.
+fn part(a: Watch, volts: &mut [i32; 512], c: Card, full: bool, v: &[i32]) -> Watch
+    requires { ⌜ Good a (now volts) × Uniform full a (length (now v)) ⌝ }
+    ensures { λ r. ⌜ both r (now (volts .exit)) ≡ seenAll c (both a (now (volts .entry))) (now (v .entry)) ⌝ }
+{
+    if v.len() == 0 {
+        return a;
+    }
+    let limits = a.limits;
+    let p = track_of(c, limits, full);
+    let s = Sweep {
+        at: a.at as usize,
+        sum: a.sum,
+        below: a.alarms.sag,
+        above: a.alarms.surge,
+    };
+    let t = slide(volts, s, p, v);
+    let seen = seen_after(limits.w, a.seen, v.len());
+    let alarms = Alarms {
+        sag: (limits.sticky.sag & t.below) | (t.sum < p.low),
+        surge: (limits.sticky.surge & t.above) | (p.high < t.sum),
+    };
+    Watch {
+        limits,
+        at: t.at as u32,
+        seen,
+        sum: t.sum,
+        alarms,
+    }
+}
+
+// Voltages of one card: those before W are seen, and those from there on.
+fn see(a: Watch, volts: &mut [i32; 512], c: Card, v: &[i32]) -> Watch
+    requires { ⌜ Good a (now volts) ⌝ }
+    ensures { λ r. ⌜ both r (now (volts .exit)) ≡ seenAll c (both a (now (volts .entry))) (now (v .entry)) ⌝ }
+{
+    let left = (a.limits.w - a.seen) as usize;
+    if left == 0 {
+        return part(a, volts, c, true, v);
+    }
+    if v.len() < left {
+        return part(a, volts, c, false, v);
+    }
+    let blank = left - 1;
+    let b = part(a, volts, c, false, &v[0..blank]);
+    part(b, volts, c, true, &v[blank..])
+}
+
+// Whether the sum is that of the squares of the voltages, all of the 24-bit range: one pass. (Of a clipped voltage, whose square is small.)
+fn is_sum(sum: u64, volts: &[i32]) -> bool
+    requires { ⌜ length (now volts) ≡ 512 ⌝ }
+    ensures { λ r. ⌜ r ≡ (every24 (now (volts .entry)) && eqb sum (squares (now (volts .entry)))) ⌝ }
+{
+    let mut ok = true;
+    let mut total: u64 = 0;
+    let mut k: usize = 0;
+    while k < 512 {
+        let x = volts[k];
+        ok = ok & range::in_range(x);
+        total += number::square(range::clip(x as i64));
+        k += 1;
+    }
+    ok & (sum == total)
+}
+
+// Whether steps can have made the watch: no number can overflow, and the sum is that of the voltages.
+fn sound(a: Watch, volts: &[i32]) -> bool
+    requires { ⌜ length (now volts) ≡ 512 ⌝ }
+    ensures { λ r. ⌜ r ≡ watchSound (both a (now (volts .entry))) ⌝ }
+{
+    let t = a.limits;
+    let kept = is_sum(a.sum, volts);
+    (t.w <= 512)
+        & (a.at < t.w)
+        & (a.seen <= t.w)
+        & (t.vsag <= 8388607)
+        & (t.vsurge <= 8388607)
+        & kept
+}
+
+// The voltages of a block: the first `turn` of them with one card, the others with the next.
+pub fn pass(a: Watch, volts: &mut [i32; 512], c: Card, next: Card, turn: usize, v: &[i32]) -> Passed
+    ensures { λ r. ⌜ r ≡ passOf c next turn (both a (now (volts .entry))) (now (v .entry)) ⌝ }
+    ensures { λ _. ⌜ now (volts .exit) ≡ voltsAfter c next turn (both a (now (volts .entry))) (now (v .entry)) ⌝ }
+{
+    if sound(a, volts) {
+        if turn < v.len() {
+            let b = see(a, volts, c, &v[0..turn]);
+            let watch = see(b, volts, next, &v[turn..]);
+            return Passed { ok: true, watch };
+        }
+        let watch = see(a, volts, c, v);
+        return Passed { ok: true, watch };
+    }
+    Passed {
+        ok: false,
+        watch: a,
+    }
+}
