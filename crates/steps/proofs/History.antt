@@ -6,7 +6,7 @@ use mathlib.Core.Option.{none, some}
 use Rattle.steps.specs.Answers.{OrRefusal, refused, accepted, andThen, orAsBefore}
 use Rattle.steps.specs.Port.{Port, on}
 use Rattle.steps.specs.Parts.{Parts}
-use Rattle.steps.specs.Module.{edit, commit, dropCard, hold, read, Step, atPort, block, reset, State, withMeter, withDesk, Report, silent, commits, tells, closes, resets, didEdit, didCommit, didDrop, didHold, didRead, didBlock, didReset, Done}
+use Rattle.steps.specs.Module.{edit, commit, dropCard, hold, read, Step, atPort, block, reset, State, Report, silent, commits, tells, closes, resets, didEdit, didCommit, didDrop, didHold, didRead, didBlock, didReset, Done}
 use Rattle.steps.specs.Run.{Event, committed, fed, cleared, Run, follow, run}
 use Rattle.steps.specs.History.{play, HistoryDecides}
 
@@ -53,13 +53,13 @@ module _ (P : Parts) where
 
     commit-plays : (p : Port) (q : OrRefusal (P .Card)) → PlaysFrom (s .meter) (follow P (andThen q (didCommit P p s)) s rest)
     commit-plays p (refused n) = ih s
-    commit-plays p (accepted c) = ih (withMeter P (P .wait c (s .meter)) (withDesk P p (P .shut) s))
+    commit-plays p (accepted c) = ih (didCommit P p s c .1)
 
     block-plays : (b : P .Block) (q : OrRefusal (P .Meter × List (P .Closed))) → P .feed (s .meter) b ≡ q →
         PlaysFrom (s .meter) (follow P (andThen q (didBlock P b s)) s rest)
     block-plays b (refused n) e = ih s
     block-plays b (accepted r) e =
-        let t = withMeter P (r .0) s in
+        let t = didBlock P b s r .1 in
         let to : OrRefusal (P .Meter × List (P .Closed)) → P .Meter = λ q. endOf (rest t .history) (orAsBefore (andThen q (λ r. r .0)) (s .meter)) in
         (rw e (ap (λ (l : List (P .Closed)). r .1 ++ l) (ih t .0)), ih t .1 ∙ ap to (sym e))
 
@@ -67,7 +67,7 @@ module _ (P : Parts) where
         PlaysFrom (s .meter) (follow P (andThen q (didReset P k s)) s rest)
     reset-plays k (refused n) e = ih s
     reset-plays k (accepted m) e =
-        let t = withMeter P m s in
+        let t = didReset P k s m .1 in
         let to : OrRefusal (P .Meter) → P .Meter = λ q. orAsBefore q (s .meter) in
         (ih t .0 ∙ ap (λ q. play P (rest t .history) (to q)) (sym e), ih t .1 ∙ ap (λ q. endOf (rest t .history) (to q)) (sym e))
 
