@@ -7,7 +7,7 @@ use mathlib.Core.Option.{none, some}
 use Rattle.steps.specs.Answers.{OrRefusal, refused, accepted, andThen}
 use Rattle.steps.specs.Port.{Port, PerPort, on, putOn}
 use Rattle.steps.specs.Parts.{Parts}
-use Rattle.steps.specs.Module.{Op, edit, commit, dropCard, hold, read, Step, atPort, block, State, withHeld, fresh, Report, silent, commits, tells, closes, Outcome, step, didEdit, didCommit, didDrop, didBlock, Done}
+use Rattle.steps.specs.Module.{Op, edit, commit, dropCard, hold, read, Step, atPort, block, reset, State, withHeld, fresh, Report, silent, commits, tells, closes, resets, Outcome, step, didEdit, didCommit, didDrop, didBlock, didReset, Done}
 use Rattle.steps.specs.Run.{Run, withReport, follow, run}
 use Rattle.steps.specs.Shorter.{stepsOf, shorter}
 use Rattle.steps.specs.Calls.{Reply, reply, after, Methods, Log, noted, Ran, ended, called, shorterCalls, CallsDemand3}
@@ -33,6 +33,7 @@ module _ (P : Parts) (S : Sound P) (M : Methods P) (A : Does P S M) where
   Untold (commits c) = Unit {0}
   Untold (tells p op v) = ⊥
   Untold (closes b c) = Unit {0}
+  Untold (resets k) = Unit {0}
 
   module _ (rest : State P → Run P) (s : State P) (l : Log P Kept) where
     report-agree : (x : Step P) (a : Report P) (t : State P) → Untold a → Agree l (rest t) → Agree (noted P Kept x (reply P (accepted (a, t))) l) (withReport P a (rest t))
@@ -40,6 +41,7 @@ module _ (P : Parts) (S : Sound P) (M : Methods P) (A : Does P S M) where
     report-agree x (commits c) t u g = g
     report-agree x (tells p op v) t u g = absurd u
     report-agree x (closes b c) t u g = g
+    report-agree x (resets k) t u g = g
 
     other-agree : {A : Type 0} (x : Step P) (q : OrRefusal A) (f : A → Done P) → ((a : A) → Untold (f a .0)) → Agree l (rest (after P (andThen q f) s)) →
         Agree (noted P Kept x (reply P (andThen q f)) l) (follow P (andThen q f) s rest)
@@ -58,9 +60,10 @@ module _ (P : Parts) (S : Sound P) (M : Methods P) (A : Does P S M) where
     step-agree (atPort (some p) commit) g =
         other-agree (atPort (some p) commit) (P .finished (on (s .desks) p)) (didCommit P p s) (λ c. tt) g
     step-agree (atPort (some p) dropCard) g = other-agree (atPort (some p) dropCard) (P .discarded (on (s .desks) p)) (didDrop P p s) (λ u. tt) g
-    step-agree (atPort (some p) (hold k)) g = told-agree p (hold k) (P .copy k (s .meter)) (P .told k) (λ h. withHeld P p h s) g
+    step-agree (atPort (some p) (hold k)) g = told-agree p (hold k) (P .copy k (s .meter)) (P .told k (s .meter)) (λ h. withHeld P p h s) g
     step-agree (atPort (some p) (read a)) g = told-agree p (read a) (P .look (on (s .holds) p) a) (λ v. v) (λ v. s) g
     step-agree (block b) g = other-agree (block b) (P .feed (s .meter) b) (didBlock P b s) (λ r. tt) g
+    step-agree (reset k) g = other-agree (reset k) (P .clear (s .meter) k) (didReset P k s) (λ m. tt) g
 
   agree : {ks : List Call} {m : Kept} {l : Log P Kept} → Ran P M ks m l → SoundState P S (stateOf m) → Agree l (run P (map stepOf ks) (stateOf m))
   agree ended w = (refl, refl, refl)

@@ -4,7 +4,7 @@ use mathlib.Core.List.{List, [], _∷_, _++_, append-nil, append-assoc}
 use mathlib.Core.Option.{none, some}
 use Rattle.steps.specs.Port.{Port, port0, port1, on, putOn, onBoth, ifSame}
 use Rattle.steps.specs.Parts.{Parts}
-use Rattle.steps.specs.Module.{edit, commit, dropCard, hold, read, Step, atPort, block}
+use Rattle.steps.specs.Module.{edit, commit, dropCard, hold, read, Step, atPort, block, reset}
 use Rattle.steps.specs.Shorter.{readsAhead, readEach, moved, Fate, staysOpen, willCommit, willDrop, editEach, stepsOf, fate, Drafts, drawnEdit, drawn}
 use Rattle.steps.specs.Tidy.{cards}
 
@@ -33,6 +33,7 @@ module _ (P : Parts) where
   moved-cards (atPort (some q) (hold k) ∷ r) p es = reads-cards p q (readsAhead P q r) (moved P r) es ∙ moved-cards r p es
   moved-cards (atPort (some q) (read a) ∷ r) p es = moved-cards r p es
   moved-cards (block b ∷ r) p es = moved-cards r p es
+  moved-cards (reset k ∷ r) p es = moved-cards r p es
 
   -- ---- pass 3: k is the port's draft, and d and c are what its open card has so far in the shorter and in the longer sequence
 
@@ -119,6 +120,7 @@ module _ (P : Parts) where
   same (atPort (some q) (hold t) ∷ r) p k d c b = same r p k d c b
   same (atPort (some q) (read a) ∷ r) p k d c b = same r p k d c b
   same (block x ∷ r) p k d c b = same r p k d c b
+  same (reset x ∷ r) p k d c b = same r p k d c b
 
   shut-both : (p : Port) (f : Fate) → Beside f (on (onBoth []) p) [] []
   shut-both port0 f = beside-shut f

@@ -7,12 +7,12 @@ use Rattle.steps.specs.Module.{Step, fresh}
 use Rattle.steps.specs.Run.{Run}
 use Rattle.steps.specs.Shorter.{struck, moved}
 use Rattle.steps.specs.Demand3.{longRun, shortRun, Demand3}
-use Rattle.steps.proofs.Strike.{cleared, strike}
+use Rattle.steps.proofs.Strike.{unrefused, strike}
 use Rattle.steps.proofs.Move.{move}
 use Rattle.steps.proofs.Draw.{draw}
 
 -- but for the refusals, of which the shorter one has none, the two runs are one
-pub same-run : (P : Parts) (m : P .Meter) (xs : List (Step P)) → shortRun P m xs ≡ cleared P (longRun P m xs)
+pub same-run : (P : Parts) (m : P .Meter) (xs : List (Step P)) → shortRun P m xs ≡ unrefused P (longRun P m xs)
 same-run P m xs =
     let e = strike P xs (fresh P m) in
     let h = ap (λ (r : Run P). r .refusals) e in

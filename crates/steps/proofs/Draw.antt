@@ -6,7 +6,7 @@ use mathlib.Core.Option.{none, some}
 use Rattle.steps.specs.Answers.{OrRefusal, refused, accepted, andThen}
 use Rattle.steps.specs.Port.{Port, port0, port1, PerPort, on, putOn, onBoth}
 use Rattle.steps.specs.Parts.{Parts}
-use Rattle.steps.specs.Module.{edit, commit, dropCard, hold, read, Step, atPort, block, State, withMeter, withDesk, fresh, commits, didEdit, didCommit, didDrop, didHold, didRead, didBlock, Done}
+use Rattle.steps.specs.Module.{edit, commit, dropCard, hold, read, Step, atPort, block, reset, State, withMeter, withDesk, fresh, commits, didEdit, didCommit, didDrop, didHold, didRead, didBlock, didReset, Done}
 use Rattle.steps.specs.Run.{withReport, follow, run}
 use Rattle.steps.specs.Shorter.{Fate, staysOpen, willCommit, willDrop, editEach, stepsOf, fate, Drafts, drawnEdit, drawn}
 use Rattle.steps.proofs.Outcomes.{never, report-refusals}
@@ -141,6 +141,8 @@ module _ (P : Parts) where
       other-fine r (fate P port0 r) (fate P port1 r) (fine r) k s (didRead P p a s) (P .look (on (s .holds) p) a) (λ v. refl) h m n
   fine (block b ∷ r) k s h m n =
       other-fine r (fate P port0 r) (fate P port1 r) (fine r) k s (didBlock P b s) (P .feed (s .meter) b) (λ w. refl) h m n
+  fine (reset t ∷ r) k s h m n =
+      other-fine r (fate P port0 r) (fate P port1 r) (fine r) k s (didReset P t s) (P .clear (s .meter) t) (λ w. refl) h m n
 
   -- ---- from a fresh module, where both desks are shut
 

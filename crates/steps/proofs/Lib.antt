@@ -7,7 +7,9 @@ pub mod Demand3
 pub mod Cards
 pub mod Tidy
 pub mod History
+pub mod Cutting
 pub mod OneCard
+pub mod Watching
 pub mod AllSamples
 pub mod Promise
 pub mod Always

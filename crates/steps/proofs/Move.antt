@@ -5,7 +5,7 @@ use mathlib.Core.Option.{none, some}
 use Rattle.steps.specs.Answers.{OrRefusal, refused, accepted, andThen}
 use Rattle.steps.specs.Port.{Port, port0, port1, PerPort, on, onBoth, ifSame}
 use Rattle.steps.specs.Parts.{Parts}
-use Rattle.steps.specs.Module.{edit, commit, dropCard, hold, read, Step, atPort, block, State, withHeld, fresh, Report, silent, commits, tells, closes, didEdit, didCommit, didDrop, didHold, didRead, didBlock, Done}
+use Rattle.steps.specs.Module.{edit, commit, dropCard, hold, read, Step, atPort, block, reset, State, withHeld, fresh, Report, silent, commits, tells, closes, resets, didEdit, didCommit, didDrop, didHold, didRead, didBlock, didReset, Done}
 use Rattle.steps.specs.Run.{Run, withRefusal, withReport, follow, run}
 use Rattle.steps.specs.Shorter.{readsAhead, readEach, moved}
 use Rattle.steps.proofs.Outcomes.{never, report-refusals}
@@ -38,12 +38,14 @@ module _ (P : Parts) where
   Apart p (commits c) = Unit {0}
   Apart p (tells q o v) = ifSame p q ⊥ (Unit {0})
   Apart p (closes b c) = Unit {0}
+  Apart p (resets k) = Unit {0}
 
   adds-report : (p : Port) (x : P .Address) (q : OrRefusal (P .Value)) (a : Report P) (r : Run P) → Apart p a → adds p x q (withReport P a r) ≡ withReport P a (adds p x q r)
   adds-report p x (refused n) silent r h = refl
   adds-report p x (refused n) (commits c) r h = refl
   adds-report p x (refused n) (tells q o v) r h = refl
   adds-report p x (refused n) (closes b c) r h = refl
+  adds-report p x (refused n) (resets k) r h = refl
   adds-report p x (accepted w) silent r h = refl
   adds-report p x (accepted w) (commits c) r h = refl
   adds-report port0 x (accepted w) (tells port0 o v) r h = absurd h
@@ -51,6 +53,7 @@ module _ (P : Parts) where
   adds-report port1 x (accepted w) (tells port0 o v) r h = refl
   adds-report port1 x (accepted w) (tells port1 o v) r h = absurd h
   adds-report p x (accepted w) (closes b c) r h = refl
+  adds-report p x (accepted w) (resets k) r h = refl
 
   answers-report : (p : Port) (o : P .Held) (l : List (P .Address)) (a : Report P) (r : Run P) → Apart p a → answers p o l (withReport P a r) ≡ withReport P a (answers p o l r)
   answers-report p o [] a r h = refl
@@ -104,7 +107,7 @@ module _ (P : Parts) where
     hold-even0 k (refused n) h = never h
     hold-even0 k (accepted v) h =
         let t = withHeld P port0 v s in
-        let a = tells port0 (hold k) (P .told k v) in
+        let a = tells port0 (hold k) (P .told k (s .meter) v) in
         let u = s .holds .on1 in
         answers-report port1 u (ahead port1) a (run P (readEach P port0 (ahead port0) (moved P r)) t) tt
         ∙ ap (λ (z : Run P). withReport P a (answers port1 u (ahead port1) z)) (reads-run port0 (ahead port0) (moved P r) t)
@@ -115,7 +118,7 @@ module _ (P : Parts) where
     hold-even1 k (refused n) h = never h
     hold-even1 k (accepted v) h =
         let t = withHeld P port1 v s in
-        let a = tells port1 (hold k) (P .told k v) in
+        let a = tells port1 (hold k) (P .told k (s .meter) v) in
         let u = s .holds .on0 in
         answers-report port0 u (ahead port0) a (run P (readEach P port1 (ahead port1) (moved P r)) t) tt
         ∙ ap (λ (z : Run P). withReport P a (answers port0 u (ahead port0) z)) (reads-run port1 (ahead port1) (moved P r) t)
@@ -147,6 +150,7 @@ module _ (P : Parts) where
   even (atPort (some port0) (read a) ∷ r) s h = read-even0 r (even r) s a (P .look (s .holds .on0) a) h
   even (atPort (some port1) (read a) ∷ r) s h = read-even1 r (even r) s a (P .look (s .holds .on1) a) h
   even (block b ∷ r) s h = other-even r (even r) s (didBlock P b s) (P .feed (s .meter) b) (λ w. tt) (λ w. tt) (λ w. refl) h
+  even (reset k ∷ r) s h = other-even r (even r) s (didReset P k s) (P .clear (s .meter) k) (λ m. tt) (λ m. tt) (λ m. refl) h
 
   -- ---- from a fresh module no read is left over in front, since where nothing is held a read is refused
 

@@ -4,7 +4,7 @@ use native.Mathlib.Nat.{suc-ne-zero}
 use mathlib.Core.Path.{_≡_, refl, sym}
 use Rattle.steps.specs.Answers.{refused, accepted}
 use Rattle.steps.specs.Parts.{Parts}
-use Rattle.steps.specs.Module.{Report, silent, commits, tells, closes}
+use Rattle.steps.specs.Module.{Report, silent, commits, tells, closes, resets}
 use Rattle.steps.specs.Run.{Run, withReport}
 
 module _ (P : Parts) where
@@ -14,6 +14,7 @@ module _ (P : Parts) where
   report-refusals (commits c) r = refl
   report-refusals (tells p o v) r = refl
   report-refusals (closes b c) r = refl
+  report-refusals (resets k) r = refl
 
 -- a run of no refusal has not begun with one
 pub never : {A : Type 0} {n : ℕ} → suc n ≡ 0 → A

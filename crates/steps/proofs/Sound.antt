@@ -6,7 +6,7 @@ use mathlib.Core.Option.{none, some}
 use Rattle.steps.specs.Answers.{OrRefusal, refused, accepted, andThen}
 use Rattle.steps.specs.Port.{Port, port0, port1, on, putOn}
 use Rattle.steps.specs.Parts.{Parts}
-use Rattle.steps.specs.Module.{edit, commit, dropCard, hold, read, Step, atPort, block, State, withMeter, withDesk, withHeld, Report, silent, commits, tells, closes, Outcome, step, didEdit, didCommit, didDrop, didHold, didRead, didBlock, Done}
+use Rattle.steps.specs.Module.{edit, commit, dropCard, hold, read, Step, atPort, block, reset, State, withMeter, withDesk, withHeld, Report, silent, commits, tells, closes, resets, Outcome, step, didEdit, didCommit, didDrop, didHold, didRead, didBlock, didReset, Done}
 use Rattle.steps.specs.Run.{Run, withReport, follow, run}
 use Rattle.steps.specs.Calls.{after}
 
@@ -19,6 +19,7 @@ pub record Sound (P : Parts) : Type 1 where
   pub finished-sound : (d : P .Desk) (c : P .Card) → OfDesk d → P .finished d ≡ accepted c → OfCard c
   pub wait-sound : (c : P .Card) (m : P .Meter) → OfCard c → OfMeter m → OfMeter (P .wait c m)
   pub feed-sound : (m : P .Meter) (b : P .Block) (r : P .Meter × List (P .Closed)) → OfMeter m → P .feed m b ≡ accepted r → OfMeter (r .0)
+  pub clear-sound : (m : P .Meter) (k : P .Mask) (m′ : P .Meter) → OfMeter m → P .clear m k ≡ accepted m′ → OfMeter m′
 
 pub record SoundState (P : Parts) (S : Sound P) (s : State P) : Type 0 where
   pub meter : S .OfMeter (s .meter)
@@ -30,13 +31,14 @@ module _ (P : Parts) where
   report-end (commits c) r = refl
   report-end (tells p o v) r = refl
   report-end (closes b c) r = refl
+  report-end (resets k) r = refl
 
   follow-end : (o : Outcome P) (s : State P) (rest : State P → Run P) → follow P o s rest .end ≡ rest (after P o s) .end
   follow-end (refused n) s rest = refl
   follow-end (accepted r) s rest = report-end (r .0) (rest (r .1))
 
   module _ (S : Sound P) where
-    open Sound S using (OfDesk, OfMeter, shut-sound, edited-sound, finished-sound, wait-sound, feed-sound)
+    open Sound S using (OfDesk, OfMeter, shut-sound, edited-sound, finished-sound, wait-sound, feed-sound, clear-sound)
 
     -- ---- every step keeps a sound state
 
@@ -74,6 +76,8 @@ module _ (P : Parts) where
     step-sound (atPort (some p) (read a)) s w = after-sound (P .look (on (s .holds) p) a) (didRead P p a s) s w (λ v q. w)
     step-sound (block b) s w =
         after-sound (P .feed (s .meter) b) (didBlock P b s) s w (λ r q. with-meter (r .0) s (feed-sound (s .meter) b r (w .meter) q) w)
+    step-sound (reset k) s w =
+        after-sound (P .clear (s .meter) k) (didReset P k s) s w (λ m q. with-meter m s (clear-sound (s .meter) k m (w .meter) q) w)
 
     pub always-sound : (xs : List (Step P)) (s : State P) → SoundState P S s → SoundState P S (run P xs s .end)
     always-sound [] s w = w

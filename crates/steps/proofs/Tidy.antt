@@ -1,4 +1,4 @@
--- The shorter sequence is tidy, and its holds, commits and blocks stand in the order in which they were accepted.
+-- The shorter sequence is tidy, and its holds, commits, blocks and resets stand in the order in which they were accepted.
 use mathlib.Core.Path.{_≡_, refl, ap, ap₂, sym, _∙_}
 use mathlib.Core.Bool.{Bool, true, false, cond}
 use mathlib.Core.List.{List, [], _∷_, _++_}
@@ -6,7 +6,7 @@ use mathlib.Core.Option.{Option, none, some}
 use Rattle.steps.specs.Answers.{refused, accepted}
 use Rattle.steps.specs.Port.{Port, port0, port1, on, putOn, onBoth, ifSame}
 use Rattle.steps.specs.Parts.{Parts}
-use Rattle.steps.specs.Module.{edit, commit, dropCard, hold, read, Step, atPort, block, State, Outcome, step}
+use Rattle.steps.specs.Module.{edit, commit, dropCard, hold, read, Step, atPort, block, reset, State, Outcome, step}
 use Rattle.steps.specs.Shorter.{struckIf, struck, readsAhead, readEach, moved, Fate, staysOpen, willCommit, willDrop, Act, editEach, stepsOf, fate, Drafts, drawnEdit, drawn}
 use Rattle.steps.specs.Tidy.{Accepted, ends, strikes, stays, NoCard, TidyBehind, endsLater, landmarks, InOrder}
 use Rattle.steps.proofs.Outcomes.{zero-one}
@@ -31,6 +31,7 @@ module _ (P : Parts) where
   Known (atPort none op ∷ r) = ⊥
   Known (atPort (some p) op ∷ r) = Known r
   Known (block b ∷ r) = Known r
+  Known (reset k ∷ r) = Known r
 
   known-if : (x : Step P) (s : State P) (o : Outcome P) (rest : State P → List (Step P)) → ((t : State P) → Known (rest t)) → ((r : List (Step P)) → Known r → Known (x ∷ r)) →
       Known (struckIf P o x s rest)
@@ -42,6 +43,7 @@ module _ (P : Parts) where
   known (atPort none op ∷ xs) s = known xs s
   known (atPort (some p) op ∷ xs) s = known-if (atPort (some p) op) s (step P (atPort (some p) op) s) (struck P xs) (known xs) (λ r k. k)
   known (block b ∷ xs) s = known-if (block b) s (step P (block b) s) (struck P xs) (known xs) (λ r k. k)
+  known (reset t ∷ xs) s = known-if (reset t) s (step P (reset t) s) (struck P xs) (known xs) (λ r k. k)
 
   -- ---- pass 2 puts each read behind a hold of its own port
 
@@ -54,6 +56,7 @@ module _ (P : Parts) where
   Behind h (atPort (some p) (hold k) ∷ r) = Behind (some p) r
   Behind h (atPort (some p) (read a) ∷ r) = (h ≡ some p) × Behind h r
   Behind h (block b ∷ r) = Behind none r
+  Behind h (reset k ∷ r) = Behind none r
 
   weaken : (h : Option Port) (r : List (Step P)) → Behind none r → Behind h r
   weaken h [] b = tt
@@ -64,6 +67,7 @@ module _ (P : Parts) where
   weaken h (atPort (some p) (hold k) ∷ r) b = b
   weaken h (atPort (some p) (read a) ∷ r) b = let e = b .0 in zero-one cc
   weaken h (block c ∷ r) b = b
+  weaken h (reset k ∷ r) b = b
 
   reads-behind : (p : Port) (l : List (P .Address)) (r : List (Step P)) → Behind none r → Behind (some p) (readEach P p l r)
   reads-behind p [] r b = weaken (some p) r b
@@ -78,6 +82,7 @@ module _ (P : Parts) where
   moved-behind (atPort (some p) (hold t) ∷ r) k = reads-behind p (readsAhead P p r) (moved P r) (moved-behind r k)
   moved-behind (atPort (some p) (read a) ∷ r) k = moved-behind r k
   moved-behind (block b ∷ r) k = moved-behind r k
+  moved-behind (reset t ∷ r) k = moved-behind r k
 
   -- ---- pass 3 leaves an edit by itself only where its card is still open at the end
 
@@ -101,6 +106,7 @@ module _ (P : Parts) where
   no-card (atPort (some q) (hold t) ∷ r) p f k = no-card r p f k
   no-card (atPort (some q) (read a) ∷ r) p f k = no-card r p f k
   no-card (block b ∷ r) p f k = no-card r p f k
+  no-card (reset t ∷ r) p f k = no-card r p f k
 
   edit-tidy : (p : Port) (e : P .Edit) (r : List (Step P)) (h : Option Port) (f : Fate) → fate P p r ≡ f → ((h : Option Port) (k : Drafts P) → TidyBehind P h (drawn P r k)) →
       (k : Drafts P) → TidyBehind P h (drawnEdit P f p e (drawn P r) k)
@@ -117,8 +123,9 @@ module _ (P : Parts) where
   drawn-tidy (atPort (some p) (hold t) ∷ r) h b k = drawn-tidy r (some p) b k
   drawn-tidy (atPort (some p) (read a) ∷ r) h b k = (b .0, drawn-tidy r h (b .1) k)
   drawn-tidy (block c ∷ r) h b k = drawn-tidy r none b k
+  drawn-tidy (reset t ∷ r) h b k = drawn-tidy r none b k
 
-  -- ---- neither pass 2 nor pass 3 moves a hold, a commit, a block, or what was done on a card still open at the end
+  -- ---- neither pass 2 nor pass 3 moves a hold, a commit, a block, a reset, or what was done on a card still open at the end
 
   reads-end : (p q : Port) (l : List (P .Address)) (r : List (Step P)) → endsLater P p (readEach P q l r) ≡ endsLater P p r
   reads-end p q [] r = refl
@@ -133,6 +140,7 @@ module _ (P : Parts) where
   moved-ends (atPort (some q) (hold k) ∷ r) p = reads-end p q (readsAhead P q r) (moved P r) ∙ moved-ends r p
   moved-ends (atPort (some q) (read a) ∷ r) p = moved-ends r p
   moved-ends (block b ∷ r) p = moved-ends r p
+  moved-ends (reset k ∷ r) p = moved-ends r p
 
   reads-aside : (p : Port) (l : List (P .Address)) (r : List (Step P)) → landmarks P (readEach P p l r) ≡ landmarks P r
   reads-aside p [] r = refl
@@ -147,6 +155,7 @@ module _ (P : Parts) where
   moved-in-place (atPort (some p) (hold k) ∷ r) = ap (λ (l : List (Step P)). atPort (some p) (hold k) ∷ l) (reads-aside p (readsAhead P p r) (moved P r) ∙ moved-in-place r)
   moved-in-place (atPort (some p) (read a) ∷ r) = moved-in-place r
   moved-in-place (block b ∷ r) = ap (λ (l : List (Step P)). block b ∷ l) (moved-in-place r)
+  moved-in-place (reset k ∷ r) = ap (λ (l : List (Step P)). reset k ∷ l) (moved-in-place r)
 
   -- a card that is committed or dropped has that fate
   abbrev ended : Fate → Bool
@@ -169,6 +178,7 @@ module _ (P : Parts) where
   fate-ends (atPort (some q) (hold k) ∷ r) p = fate-ends r p
   fate-ends (atPort (some q) (read a) ∷ r) p = fate-ends r p
   fate-ends (block b ∷ r) p = fate-ends r p
+  fate-ends (reset k ∷ r) p = fate-ends r p
 
   -- a card is drawn into one act: its edits stand before its commit
   edits-end : (p q : Port) (es : List (P .Edit)) (r : List (Step P)) → endsLater P p (editEach P q es r) ≡ endsLater P p r
@@ -207,6 +217,7 @@ module _ (P : Parts) where
   drawn-open (atPort (some q) (hold t) ∷ r) p f k = drawn-open r p f k
   drawn-open (atPort (some q) (read a) ∷ r) p f k = drawn-open r p f k
   drawn-open (block b ∷ r) p f k = drawn-open r p f k
+  drawn-open (reset t ∷ r) p f k = drawn-open r p f k
 
   edit-in-place : (p : Port) (e : P .Edit) (r : List (Step P)) (f : Fate) → fate P p r ≡ f → ((k : Drafts P) → landmarks P (stepsOf P (drawn P r k)) ≡ landmarks P r) →
       (k : Drafts P) → landmarks P (stepsOf P (drawnEdit P f p e (drawn P r) k)) ≡ cond (ended f) (landmarks P r) (atPort (some p) (edit e) ∷ landmarks P r)
@@ -228,6 +239,7 @@ module _ (P : Parts) where
   drawn-in-place (atPort (some p) (hold t) ∷ r) k = ap (λ (l : List (Step P)). atPort (some p) (hold t) ∷ l) (drawn-in-place r k)
   drawn-in-place (atPort (some p) (read a) ∷ r) k = drawn-in-place r k
   drawn-in-place (block b ∷ r) k = ap (λ (l : List (Step P)). block b ∷ l) (drawn-in-place r k)
+  drawn-in-place (reset t ∷ r) k = ap (λ (l : List (Step P)). reset t ∷ l) (drawn-in-place r k)
 
   pub in-order : (s : State P) (xs : List (Step P)) → InOrder P s xs
   in-order s xs =

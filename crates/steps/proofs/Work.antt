@@ -5,9 +5,9 @@ use mathlib.Core.Path.{_≡_, sym, subst}
 use mathlib.Core.Bool.{Bool, true, false, cond}
 use mathlib.Core.List.{List, [], _∷_, _++_, append-nil, append-assoc}
 use mathlib.Core.Option.{Option, none, some}
-use Rattle.steps.specs.Answers.{OrRefusal, refused, accepted}
+use Rattle.steps.specs.Answers.{OrRefusal, refused, accepted, andThen}
 use Rattle.steps.specs.Module.{Step, State}
-use Rattle.steps.specs.Gauge.{Gauge, Ports, Meter, latest, waitOver, workedOn, begun, closing, joins, begins, closesBefore, sample, samples, feeds, partsOf}
+use Rattle.steps.specs.Gauge.{Gauge, Ports, Meter, Metering, latest, waitOver, workedOn, begun, closing, joins, begins, closesBefore, sample, samples, passes, partsOf}
 use Rattle.steps.specs.Run.{run}
 use Rattle.steps.proofs.Outcomes.{refused-never, accepted-is}
 use Rattle.steps.proofs.Always.{Lasting, always}
@@ -67,19 +67,28 @@ module _ (G : Gauge) (L : LastingWork G) where
       let q = samples G xs (r .0) in
       then-keeps h (r .1) (q .1) (q .0 .work) (samples-keep xs (r .0) (h ++ r .1) (sample-keeps (m .taken) m x h i))
 
-  feeds-keep : (q : OrRefusal (List Sample)) (o : Option Card) (m : Meter G) (h : List Closed) (r : Meter G × List Closed) → feeds G q o m ≡ accepted r → Of (m .work) h → After r h
-  feeds-keep (refused n) o m h r e i = refused-never e
-  feeds-keep (accepted xs) none m h r e i = refused-never e
-  feeds-keep (accepted xs) (some c) m h r e i = subst (λ (r : Meter G × List Closed). After r h) (accepted-is e) (samples-keep xs m h i)
+  passes-keep : (q : OrRefusal (List Sample)) (o : Option Card) (m : Metering G) (h : List Closed) (r : Metering G × List Closed) →
+      passes G q o m ≡ accepted r → Of (m .intervals .work) h → Of (r .0 .intervals .work) (h ++ r .1)
+  passes-keep (refused n) o m h r e i = refused-never e
+  passes-keep (accepted xs) none m h r e i = refused-never e
+  passes-keep (accepted xs) (some c) m h r e i =
+      subst (λ (r : Metering G × List Closed). Of (r .0 .intervals .work) (h ++ r .1)) (accepted-is e) (samples-keep xs (m .intervals) h i)
 
-  pub lasting : (D : Ports (Meter G) Card) → Lasting (partsOf G D)
+  -- a reset leaves the work as it is
+  clear-keeps : (q : OrRefusal (G .Watch)) (m m′ : Metering G) (h : List Closed) →
+      andThen q (λ a. record { intervals = m .intervals; watch = a }) ≡ accepted m′ → Of (m .intervals .work) h → Of (m′ .intervals .work) h
+  clear-keeps (refused n) m m′ h e i = refused-never e
+  clear-keeps (accepted a) m m′ h e i = subst (λ (m : Metering G). Of (m .intervals .work) h) (accepted-is e) i
+
+  pub lasting : (D : Ports (Metering G) Card) → Lasting (partsOf G D)
   lasting D = record {
-    Of = λ m h. Of (m .work) h;
+    Of = λ m h. Of (m .intervals .work) h;
     on-wait = λ c m h i. i;
-    on-feed = λ m h b r e i. feeds-keep (G .samplesOf b) (latest G m) m h r e i;
+    on-feed = λ m h b r e i. passes-keep (G .samplesOf b) (latest G (m .intervals)) m h r e i;
+    on-clear = λ k m h m′ e i. clear-keeps (G .clear (m .watch) k) m m′ h e i;
   }
 
-  pub always-work : (D : Ports (Meter G) Card) (s : State (partsOf G D)) (xs : List (Step (partsOf G D))) →
-      Of (s .meter .work) [] → Of (run (partsOf G D) xs s .end .meter .work) (run (partsOf G D) xs s .closed)
+  pub always-work : (D : Ports (Metering G) Card) (s : State (partsOf G D)) (xs : List (Step (partsOf G D))) →
+      Of (s .meter .intervals .work) [] → Of (run (partsOf G D) xs s .end .meter .intervals .work) (run (partsOf G D) xs s .closed)
   unfolding lasting
   always-work D s xs i = always (partsOf G D) (lasting D) s xs i

@@ -9,3 +9,8 @@ pub data OrRefusal (A : Type 0) : Type 0 where
 abbrev pub andThen : {A B : Type 0} → OrRefusal A → (A → B) → OrRefusal B
 andThen (refused n) f = refused n
 andThen (accepted a) f = accepted (f a)
+
+-- the answer, or where it is a refusal what was there before
+abbrev pub orAsBefore : {A : Type 0} → OrRefusal A → A → A
+orAsBefore (refused n) a = a
+orAsBefore (accepted b) a = b

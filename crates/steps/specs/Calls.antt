@@ -6,7 +6,7 @@ use mathlib.Core.Option.{none, some}
 use Rattle.steps.specs.Answers.{refused, accepted}
 use Rattle.steps.specs.Port.{Port, PerPort, on, putOn, onBoth}
 use Rattle.steps.specs.Parts.{Parts}
-use Rattle.steps.specs.Module.{Op, Step, atPort, block, State, Report, silent, commits, tells, closes, Outcome}
+use Rattle.steps.specs.Module.{Op, Step, atPort, block, reset, State, Report, silent, commits, tells, closes, resets, Outcome}
 use Rattle.steps.specs.Run.{Run, run}
 use Rattle.steps.specs.Shorter.{stepsOf, shorter}
 
@@ -24,6 +24,7 @@ module _ (P : Parts) where
   replyTo (commits c) = done
   replyTo (tells p op v) = returns v
   replyTo (closes b c) = done
+  replyTo (resets k) = done
 
   abbrev pub reply : Outcome P → Reply
   reply (refused n) = refuses n
@@ -56,13 +57,14 @@ module _ (P : Parts) where
     abbrev pub noneCalled : Kept → Log Kept
     noneCalled m = record { refusals = 0; heard = onBoth []; end = m }
 
-    -- (only a hold or a read at a port returns a value: the last two cases do not occur)
+    -- (only a hold or a read at a port returns a value: the last three cases do not occur)
     abbrev pub noted : Step P → Reply → Log Kept → Log Kept
     noted x (refuses n) l = record { refusals = suc (l .refusals); heard = l .heard; end = l .end }
     noted x done l = l
     noted (atPort (some p) op) (returns v) l = record { refusals = l .refusals; heard = putOn p ((op, v) ∷ on (l .heard) p) (l .heard); end = l .end }
     noted (atPort none op) (returns v) l = l
     noted (block b) (returns v) l = l
+    noted (reset k) (returns v) l = l
 
   module _ (M : Methods) where
     open Methods M using (Kept, stateOf, Call, stepOf, callOf, Allows)

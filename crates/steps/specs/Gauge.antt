@@ -1,11 +1,12 @@
--- The meter, sample by sample: when a committed card comes into force, and when an interval closes. How a sample is corrected and
--- added, and what is made of the sums at the close, is left open (`Gauge`); so is what stands at the ports (`Ports`).
+-- The meter, sample by sample: when a committed card comes into force, and when an interval closes; and what watches the samples beside
+-- the intervals. How a sample is corrected and added, what is made of the sums at the close, and what the watch makes of a sample, is left
+-- open (`Gauge`); so is what stands at the ports (`Ports`).
 use Prim.Native.Nat.{ℕ, zero, suc}
 use mathlib.Core.Path.{_≡_}
 use mathlib.Core.Bool.{Bool, true, false, cond}
 use mathlib.Core.List.{List, [], _∷_, _++_}
 use mathlib.Core.Option.{Option, none, some}
-use Rattle.steps.specs.Answers.{OrRefusal, refused, accepted}
+use Rattle.steps.specs.Answers.{OrRefusal, refused, accepted, andThen}
 use Rattle.steps.specs.Parts.{Parts}
 
 -- a measuring core
@@ -15,12 +16,16 @@ pub record Gauge : Type 1 where
   pub Sample : Type 0  -- one voltage and one current
   pub Work : Type 0  -- start settings, the sums of the interval, and what outlives it: registers, energy, the previous raw sample
   pub Closed : Type 0  -- a closed interval with all its registers
+  pub Watch : Type 0  -- what watches the samples, beside the intervals: the last of them and the alarms
+  pub Mask : Type 0  -- what a reset names
   pub samplesOf : Block → OrRefusal (List Sample)  -- the samples of a well-formed block; 5, 6
   pub startInterval : Card → Work → Work  -- the sums at an interval's beginning
   pub addSample : Card → Work → Sample → Work  -- a sample, corrected with the card, joins the sums
   pub breaks : Card → ℕ → Work → Sample → Bool  -- does the interval of so many samples close before this one? (document 01: never)
   pub full : Card → ℕ → Work → Bool  -- does it close with the sample just added? (document 01: with the Nth)
   pub closeInterval : Card → Work → Work × Closed  -- what is made of the sums
+  pub sees : Card → Watch → Sample → Watch  -- a sample, corrected with the card, passes the watch
+  pub clear : Watch → Mask → OrRefusal Watch  -- a reset acts on the watch alone; 12
 
 -- what stands at the ports, as in `Parts`
 pub record Ports (Meter Card : Type 0) : Type 1 where
@@ -36,12 +41,14 @@ pub record Ports (Meter Card : Type 0) : Type 1 where
   pub discarded : Desk → OrRefusal (Unit {0})
   pub unheld : Held
   pub copy : HoldKind → Meter → OrRefusal Held
-  pub told : HoldKind → Held → Value
+  pub told : HoldKind → Meter → Held → Value
   pub look : Held → Address → OrRefusal Value
   pub unheld-refuses : (a : Address) → (n : ℕ) × (look unheld a ≡ refused n)
 
 module _ (G : Gauge) where
-  open Gauge G using (Card, Block, Sample, Work, Closed, samplesOf, startInterval, addSample, breaks, full, closeInterval)
+  open Gauge G using (Card, Block, Sample, Work, Closed, Watch, Mask, samplesOf, startInterval, addSample, breaks, full, closeInterval, sees, clear)
+
+  -- ---- the intervals
 
   -- `waiting` counts only while `waits`, `force` only once `forced`
   pub record Meter : Type 0 where
@@ -108,12 +115,38 @@ module _ (G : Gauge) where
   feeds (accepted xs) none m = refused 18
   feeds (accepted xs) (some c) m = accepted (samples xs m)
 
+  -- ---- the meter whole: the intervals, and what watches the samples
+
+  pub record Metering : Type 0 where
+    pub intervals : Meter
+    pub watch : Watch
+
+  -- no card, no interval; w and a are what the start settings make
+  abbrev pub newly : Card → Work → Watch → Metering
+  newly blank w a = record { intervals = new blank w; watch = a }
+
+  -- the samples of a block; one that is not well formed is refused and has none
+  abbrev pub blockSamples : OrRefusal (List Sample) → List Sample
+  blockSamples (refused n) = []
+  blockSamples (accepted xs) = xs
+
+  -- each sample is seen with the card that works it: the one in force once it is taken
+  abbrev pub watches : List Sample → Meter → Watch → Watch
+  watches [] m a = a
+  watches (x ∷ xs) m a = let q = sample (m .taken) m x .0 in watches xs q (sees (q .force) a x)
+
+  -- a block passes both or, refused, none
+  abbrev pub passes : OrRefusal (List Sample) → Option Card → Metering → OrRefusal (Metering × List Closed)
+  passes q c m =
+      andThen (feeds q c (m .intervals)) (λ r. (record { intervals = r .0; watch = watches (blockSamples q) (m .intervals) (m .watch) }, r .1))
+
   -- the module: this meter behind these ports
-  abbrev pub partsOf : Ports Meter Card → Parts
+  abbrev pub partsOf : Ports Metering Card → Parts
   partsOf D = record {
-    Meter = Meter;
+    Meter = Metering;
     Card = Card;
     Block = Block;
+    Mask = Mask;
     Closed = Closed;
     Desk = D .Desk;
     Edit = D .Edit;
@@ -125,11 +158,12 @@ module _ (G : Gauge) where
     edited = D .edited;
     finished = D .finished;
     discarded = D .discarded;
-    wait = waitsFor;
+    wait = λ c m. record { intervals = waitsFor c (m .intervals); watch = m .watch };
     unheld = D .unheld;
     copy = D .copy;
     told = D .told;
     look = D .look;
     unheld-refuses = D .unheld-refuses;
-    feed = λ m b. feeds (samplesOf b) (latest m) m;
+    feed = λ m b. passes (samplesOf b) (latest (m .intervals)) m;
+    clear = λ m k. andThen (clear (m .watch) k) (λ a. record { intervals = m .intervals; watch = a });
   }

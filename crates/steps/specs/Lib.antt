@@ -10,5 +10,6 @@ pub mod Tidy
 pub mod History
 pub mod Gauge
 pub mod OneCard
+pub mod Watching
 pub mod Promise
 pub mod Calls

@@ -6,7 +6,8 @@ use Rattle.steps.specs.Port.{Port, PerPort, on, putOn, onBoth}
 use Rattle.steps.specs.Parts.{Parts}
 
 module _ (P : Parts) where
-  open Parts P using (Meter, Desk, Edit, Card, Held, HoldKind, Address, Value, Block, Closed, shut, edited, finished, discarded, wait, unheld, copy, told, look, feed)
+  open Parts P using (Meter, Desk, Edit, Card, Held, HoldKind, Address, Value, Block, Mask, Closed)
+  open Parts P using (shut, edited, finished, discarded, wait, unheld, copy, told, look, feed, clear)
 
   pub record State : Type 0 where
     pub meter : Meter
@@ -24,10 +25,11 @@ module _ (P : Parts) where
     hold : HoldKind → Op
     read : Address → Op
 
-  -- a step by a port (`none`: by a port that is not 0 or 1) or by the sample feed
+  -- a step by a port (`none`: by a port that is not 0 or 1), by the sample feed, or a reset, by no port
   pub data Step : Type 0 where
     atPort : Option Port → Op → Step
     block : Block → Step
+    reset : Mask → Step
 
   -- what an accepted step makes known
   pub data Report : Type 0 where
@@ -35,6 +37,7 @@ module _ (P : Parts) where
     commits : Card → Report
     tells : Port → Op → Value → Report
     closes : Block → List Closed → Report
+    resets : Mask → Report
 
   abbrev pub withMeter : Meter → State → State
   withMeter m s = record { meter = m; desks = s .desks; holds = s .holds }
@@ -60,15 +63,18 @@ module _ (P : Parts) where
   abbrev pub didDrop : Port → State → Unit {0} → Done
   didDrop p s u = (silent, withDesk p shut s)
 
-  -- the port's earlier hold is replaced
+  -- the port's earlier hold is replaced; what is told of the meter is told as it is now
   abbrev pub didHold : Port → HoldKind → State → Held → Done
-  didHold p k s h = (tells p (hold k) (told k h), withHeld p h s)
+  didHold p k s h = (tells p (hold k) (told k (s .meter) h), withHeld p h s)
 
   abbrev pub didRead : Port → Address → State → Value → Done
   didRead p a s v = (tells p (read a) v, s)
 
   abbrev pub didBlock : Block → State → Meter × List Closed → Done
   didBlock b s r = (closes b (r .1), withMeter (r .0) s)
+
+  abbrev pub didReset : Mask → State → Meter → Done
+  didReset k s m = (resets k, withMeter m s)
 
   -- ---- a step: its part is asked, and what that refuses, the step refuses
 
@@ -87,3 +93,4 @@ module _ (P : Parts) where
   step (atPort none op) s = refused 8
   step (atPort (some p) op) s = stepAt p op s
   step (block b) s = andThen (feed (s .meter) b) (didBlock b s)
+  step (reset k) s = andThen (clear (s .meter) k) (didReset k s)

@@ -1,19 +1,19 @@
 -- Each closed interval is worked with one card: the last one committed before its first sample. The intervals are worked out here from
--- the history alone, the committed cards and the accepted blocks in their order; no meter and no card in force occurs.
+-- the history alone, the committed cards and the accepted blocks in their order; no meter and no card in force occurs, and no reset counts.
 use mathlib.Core.Path.{_≡_}
 use mathlib.Core.Bool.{cond}
 use mathlib.Core.List.{List, [], _∷_, _++_, map, foldl}
 use mathlib.Core.Option.{Option, none, some}
 use lib.ListN.{length}
 use Rattle.steps.specs.Answers.{OrRefusal, refused, accepted}
-use Rattle.steps.specs.Module.{Step, atPort, block, fresh}
-use Rattle.steps.specs.Run.{Event, committed, fed, run}
+use Rattle.steps.specs.Module.{Step, atPort, block, reset, fresh}
+use Rattle.steps.specs.Run.{Event, committed, fed, cleared, run}
 use Rattle.steps.specs.Shorter.{struck}
 use Rattle.steps.specs.History.{play}
-use Rattle.steps.specs.Gauge.{Gauge, Ports, Meter, new, partsOf}
+use Rattle.steps.specs.Gauge.{Gauge, Ports, Metering, newly, blockSamples, partsOf}
 
 module _ (G : Gauge) where
-  open Gauge G using (Card, Sample, Work, Closed, samplesOf, startInterval, addSample, breaks, full, closeInterval)
+  open Gauge G using (Card, Sample, Work, Closed, Watch, samplesOf, startInterval, addSample, breaks, full, closeInterval)
 
   -- ---- Each sample goes with the card committed last before it.
 
@@ -25,10 +25,11 @@ module _ (G : Gauge) where
   tagBlock none (accepted xs) rest = rest
   tagBlock (some c) (accepted xs) rest = map (λ (x : Sample). (c, x)) xs ++ rest
 
-  abbrev pub tagged : (D : Ports (Meter G) Card) → Option Card → List (Event (partsOf G D)) → List Tagged
+  abbrev pub tagged : (D : Ports (Metering G) Card) → Option Card → List (Event (partsOf G D)) → List Tagged
   tagged D c [] = []
   tagged D c (committed d ∷ h) = tagged D (some d) h
   tagged D c (fed b ∷ h) = tagBlock c (samplesOf b) (tagged D c h)
+  tagged D c (cleared k ∷ h) = tagged D c h
 
   -- ---- An interval is one card and its samples, all worked with that card.
 
@@ -85,12 +86,12 @@ module _ (G : Gauge) where
 
   -- ---- So it is, for every history and for every sequence of steps from a fresh module.
 
-  abbrev pub OneCardHistory : (D : Ports (Meter G) Card) → Card → Work → List (Event (partsOf G D)) → Type 0
-  OneCardHistory D blank w h = play (partsOf G D) h (new G blank w) ≡ closedAll (intervals (tagged D none h) (outset w)) w
+  abbrev pub OneCardHistory : (D : Ports (Metering G) Card) → Card → Work → Watch → List (Event (partsOf G D)) → Type 0
+  OneCardHistory D blank w a h = play (partsOf G D) h (newly G blank w a) ≡ closedAll (intervals (tagged D none h) (outset w)) w
 
-  abbrev pub OneCard : (D : Ports (Meter G) Card) → Card → Work → List (Step (partsOf G D)) → Type 0
-  OneCard D blank w xs =
-      let r = run (partsOf G D) xs (fresh (partsOf G D) (new G blank w)) in
+  abbrev pub OneCard : (D : Ports (Metering G) Card) → Card → Work → Watch → List (Step (partsOf G D)) → Type 0
+  OneCard D blank w a xs =
+      let r = run (partsOf G D) xs (fresh (partsOf G D) (newly G blank w a)) in
       r .closed ≡ closedAll (intervals (tagged D none (r .history)) (outset w)) w
 
   -- ---- No sample is lost and none is taken twice: those of the closed intervals and of the one that is open are the samples of all
@@ -108,19 +109,15 @@ module _ (G : Gauge) where
   placeAfter [] p = p
   placeAfter (t ∷ ts) p = placeAfter ts (cutAt (p .running) (p .left) t .0)
 
-  -- the samples of a block; one that is not well formed is refused and has none
-  abbrev pub blockSamples : OrRefusal (List Sample) → List Sample
-  blockSamples (refused n) = []
-  blockSamples (accepted xs) = xs
-
   -- the samples of the blocks among these steps
-  abbrev pub samplesFed : (D : Ports (Meter G) Card) → List (Step (partsOf G D)) → List Sample
+  abbrev pub samplesFed : (D : Ports (Metering G) Card) → List (Step (partsOf G D)) → List Sample
   samplesFed D [] = []
-  samplesFed D (block b ∷ r) = blockSamples (samplesOf b) ++ samplesFed D r
+  samplesFed D (block b ∷ r) = blockSamples G (samplesOf b) ++ samplesFed D r
   samplesFed D (atPort o op ∷ r) = samplesFed D r
+  samplesFed D (reset k ∷ r) = samplesFed D r
 
-  abbrev pub AllSamples : (D : Ports (Meter G) Card) → Card → Work → List (Step (partsOf G D)) → Type 0
-  AllSamples D blank w xs =
-      let s = fresh (partsOf G D) (new G blank w) in
+  abbrev pub AllSamples : (D : Ports (Metering G) Card) → Card → Work → Watch → List (Step (partsOf G D)) → Type 0
+  AllSamples D blank w a xs =
+      let s = fresh (partsOf G D) (newly G blank w a) in
       let ts = tagged D none (run (partsOf G D) xs s .history) in
       samplesOfAll (intervals ts (outset w)) ++ stillOpen (placeAfter ts (outset w) .running) ≡ samplesFed D (struck (partsOf G D) xs s)

@@ -7,7 +7,7 @@ use mathlib.Core.List.{List}
 use Rattle.steps.specs.Answers.{OrRefusal, refused}
 
 pub record Parts : Type 1 where
-  pub Meter : Type 0  -- all that samples see or change: settings, sums, registers, energy, the card in force, the card that waits
+  pub Meter : Type 0  -- all that samples see or change: settings, sums, registers, energy, the card in force, the card that waits, alarms
   pub Desk : Type 0  -- a port's place for a card in the making; shut, or open with a serial and the fields written so far
   pub Edit : Type 0  -- one act at a desk: open with a serial, or write a field
   pub Card : Type 0  -- a whole card
@@ -16,6 +16,7 @@ pub record Parts : Type 1 where
   pub Address : Type 0  -- what a read asks for
   pub Value : Type 0  -- what a hold or a read returns
   pub Block : Type 0  -- what a block lends
+  pub Mask : Type 0  -- what a reset names
   pub Closed : Type 0  -- a closed interval with all its registers
   -- cards
   pub shut : Desk
@@ -26,9 +27,11 @@ pub record Parts : Type 1 where
   -- readings
   pub unheld : Held  -- a port where nothing is held
   pub copy : HoldKind → Meter → OrRefusal Held  -- hold: 14
-  pub told : HoldKind → Held → Value  -- what the hold returns
+  pub told : HoldKind → Meter → Held → Value  -- what the hold returns: of what it holds, and of the meter as it is
   pub look : Held → Address → OrRefusal Value  -- read: 15, 16, 17
   -- where nothing is held, every read is refused
   pub unheld-refuses : (a : Address) → (n : ℕ) × (look unheld a ≡ refused n)
   -- samples: the meter after the block, and the intervals that the block closed
   pub feed : Meter → Block → OrRefusal (Meter × List Closed)  -- block: 5, 6, 18
+  -- alarms
+  pub clear : Meter → Mask → OrRefusal Meter  -- reset: 12

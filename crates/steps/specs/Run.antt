@@ -4,13 +4,14 @@ use mathlib.Core.List.{List, [], _∷_, _++_}
 use Rattle.steps.specs.Answers.{refused, accepted}
 use Rattle.steps.specs.Port.{PerPort, on, putOn, onBoth}
 use Rattle.steps.specs.Parts.{Parts}
-use Rattle.steps.specs.Module.{Op, Step, State, Report, silent, commits, tells, closes, Outcome, step}
+use Rattle.steps.specs.Module.{Op, Step, State, Report, silent, commits, tells, closes, resets, Outcome, step}
 
 module _ (P : Parts) where
-  -- what reaches the meter: a committed card, an accepted block
+  -- what reaches the meter: a committed card, an accepted block, an accepted reset
   pub data Event : Type 0 where
     committed : P .Card → Event
     fed : P .Block → Event
+    cleared : P .Mask → Event
 
   pub record Run : Type 0 where
     pub refusals : ℕ  -- how many steps were refused
@@ -34,6 +35,7 @@ module _ (P : Parts) where
   withReport silent r = r
   withReport (commits c) r = withEvent (committed c) [] r
   withReport (closes b c) r = withEvent (fed b) c r
+  withReport (resets k) r = withEvent (cleared k) [] r
   withReport (tells p op v) r =
       record { refusals = r .refusals; history = r .history; closed = r .closed; heard = putOn p ((op, v) ∷ on (r .heard) p) (r .heard); end = r .end }
 

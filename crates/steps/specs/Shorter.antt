@@ -1,12 +1,12 @@
 -- The shorter sequence of demand 3, made from the sequence itself in three passes: `struck` strikes out the refused steps, `moved`
 -- moves each read to just behind the hold that it answers from, `drawn` strikes out the dropped cards and draws each committed
--- card's opening and writing into one act at its commit.
+-- card's opening and writing into one act at its commit. Holds, commits, blocks and resets stay where they stood.
 use mathlib.Core.List.{List, [], _∷_, _++_}
 use mathlib.Core.Option.{none, some}
 use Rattle.steps.specs.Answers.{refused, accepted}
 use Rattle.steps.specs.Port.{Port, PerPort, on, putOn, onBoth, ifSame}
 use Rattle.steps.specs.Parts.{Parts}
-use Rattle.steps.specs.Module.{edit, commit, dropCard, hold, read, Step, atPort, block, State, Outcome, step}
+use Rattle.steps.specs.Module.{edit, commit, dropCard, hold, read, Step, atPort, block, reset, State, Outcome, step}
 
 -- what becomes of the card that a port has open
 pub data Fate : Type 0 where
@@ -35,6 +35,7 @@ module _ (P : Parts) where
   readsAhead p (atPort (some q) (hold k) ∷ r) = ifSame p q [] (readsAhead p r)
   readsAhead p (atPort (some q) (read a) ∷ r) = ifSame p q (a ∷ readsAhead p r) (readsAhead p r)
   readsAhead p (block b ∷ r) = readsAhead p r
+  readsAhead p (reset k ∷ r) = readsAhead p r
 
   -- port p reads each address of l, and then comes r
   abbrev pub readEach : Port → List (P .Address) → List (Step P) → List (Step P)
@@ -51,6 +52,7 @@ module _ (P : Parts) where
   moved (atPort (some p) (hold k) ∷ r) = atPort (some p) (hold k) ∷ readEach p (readsAhead p r) (moved r)
   moved (atPort (some p) (read a) ∷ r) = moved r
   moved (block b ∷ r) = block b ∷ moved r
+  moved (reset k ∷ r) = reset k ∷ moved r
 
   -- ---- 3. Strike out the dropped cards, and draw each committed card's opening and writing into one act at its commit.
 
@@ -80,6 +82,7 @@ module _ (P : Parts) where
   fate p (atPort (some q) (hold k) ∷ r) = fate p r
   fate p (atPort (some q) (read a) ∷ r) = fate p r
   fate p (block b ∷ r) = fate p r
+  fate p (reset k ∷ r) = fate p r
 
   -- for each port, the opening and writing met so far of a card that will be committed
   abbrev pub Drafts : Type 0
@@ -100,6 +103,7 @@ module _ (P : Parts) where
   drawn (atPort (some p) (hold t) ∷ r) k = plain (atPort (some p) (hold t)) ∷ drawn r k
   drawn (atPort (some p) (read a) ∷ r) k = plain (atPort (some p) (read a)) ∷ drawn r k
   drawn (block b ∷ r) k = plain (block b) ∷ drawn r k
+  drawn (reset t ∷ r) k = plain (reset t) ∷ drawn r k
 
   -- ---- The three together, for a sequence of steps from the state s.
 

@@ -7,7 +7,7 @@ use mathlib.Core.Option.{Option, none, some}
 use Rattle.steps.specs.Answers.{refused, accepted}
 use Rattle.steps.specs.Port.{Port, ifSame}
 use Rattle.steps.specs.Parts.{Parts}
-use Rattle.steps.specs.Module.{edit, commit, dropCard, hold, read, Step, atPort, block, State, Report, step}
+use Rattle.steps.specs.Module.{edit, commit, dropCard, hold, read, Step, atPort, block, reset, State, Report, step}
 use Rattle.steps.specs.Shorter.{struck, Act, plain, card, stepsOf, shorter}
 
 module _ (P : Parts) where
@@ -33,6 +33,7 @@ module _ (P : Parts) where
   TidyBehind behind [] = Unit {0}
   TidyBehind behind (card p es ∷ r) = TidyBehind none r
   TidyBehind behind (plain (block b) ∷ r) = TidyBehind none r
+  TidyBehind behind (plain (reset k) ∷ r) = TidyBehind none r
   TidyBehind behind (plain (atPort none op) ∷ r) = ⊥
   TidyBehind behind (plain (atPort (some p) (edit e)) ∷ r) = NoCard p r × TidyBehind none r
   TidyBehind behind (plain (atPort (some p) commit) ∷ r) = ⊥
@@ -47,6 +48,7 @@ module _ (P : Parts) where
   abbrev pub endsLater : Port → List (Step P) → Bool
   endsLater p [] = false
   endsLater p (block b ∷ r) = endsLater p r
+  endsLater p (reset k ∷ r) = endsLater p r
   endsLater p (atPort none op ∷ r) = endsLater p r
   endsLater p (atPort (some q) (edit e) ∷ r) = endsLater p r
   endsLater p (atPort (some q) commit ∷ r) = ifSame p q true (endsLater p r)
@@ -54,10 +56,12 @@ module _ (P : Parts) where
   endsLater p (atPort (some q) (hold k) ∷ r) = endsLater p r
   endsLater p (atPort (some q) (read a) ∷ r) = endsLater p r
 
-  -- the holds, the commits and the blocks of a sequence, and the opening and writing of a card still open at the end, in their order
+  -- the holds, the commits, the blocks and the resets of a sequence, and the opening and writing of a card still open at the end, in their
+  -- order
   abbrev pub landmarks : List (Step P) → List (Step P)
   landmarks [] = []
   landmarks (block b ∷ r) = block b ∷ landmarks r
+  landmarks (reset k ∷ r) = reset k ∷ landmarks r
   landmarks (atPort none op ∷ r) = landmarks r
   landmarks (atPort (some p) (edit e) ∷ r) = cond (endsLater p r) (landmarks r) (atPort (some p) (edit e) ∷ landmarks r)
   landmarks (atPort (some p) commit ∷ r) = atPort (some p) commit ∷ landmarks r
@@ -70,6 +74,7 @@ module _ (P : Parts) where
   abbrev pub cards : Port → List (Step P) → List (P .Edit) → List (List (P .Edit))
   cards p [] es = es ∷ []
   cards p (block b ∷ r) es = cards p r es
+  cards p (reset k ∷ r) es = cards p r es
   cards p (atPort none op ∷ r) es = cards p r es
   cards p (atPort (some q) (edit e) ∷ r) es = ifSame p q (cards p r (es ++ (e ∷ []))) (cards p r es)
   cards p (atPort (some q) commit ∷ r) es = ifSame p q (es ∷ cards p r []) (cards p r es)
@@ -77,9 +82,9 @@ module _ (P : Parts) where
   cards p (atPort (some q) (hold k) ∷ r) es = cards p r es
   cards p (atPort (some q) (read a) ∷ r) es = cards p r es
 
-  -- From any state, fresh or not: what is struck out is what is refused; the shorter sequence is tidy; its holds, commits and blocks are
-  -- the accepted ones in their order, and between them a card still open keeps its open and its writes where they stand; and its cards
-  -- are opened and written as they were, each write in its place.
+  -- From any state, fresh or not: what is struck out is what is refused; the shorter sequence is tidy; its holds, commits, blocks and
+  -- resets are the accepted ones in their order, and between them a card still open keeps its open and its writes where they stand; and
+  -- its cards are opened and written as they were, each write in its place.
   pub record InOrder (s : State P) (xs : List (Step P)) : Type 0 where
     pub accepted-stay : Accepted xs s (struck P xs s)
     pub tidy : Tidy (shorter P s xs)
