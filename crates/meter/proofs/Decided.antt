@@ -5,6 +5,8 @@ use Rattle.meter.proofs.Meter.block.Kinds as block-k
 use Rattle.meter.proofs.Meter.block.Reads as block
 use Rattle.meter.proofs.Meter.wait.Kinds as wait-k
 use Rattle.meter.proofs.Meter.wait.Reads as wait
+use Rattle.meter.proofs.lowest.Kinds as lowest-k
+use Rattle.meter.proofs.lowest.Reads as lowest
 use Rattle.meter.proofs.start.Kinds as start-k
 use Rattle.meter.proofs.start.Reads as start
 
@@ -14,6 +16,9 @@ block-decided = record { always = λ κs a. tt; determined = λ κs a p z z′ w
 
 pub wait-decided : Decided 0 wait-k.ps wait-k.r wait.Pre wait.Post
 wait-decided = record { always = λ κs a. tt; determined = λ κs a p z z′ ws ws′ q q′. (q ∙ sym q′, refl) }
+
+pub lowest-decided : Decided 0 lowest-k.ps lowest-k.r lowest.Pre lowest.Post
+lowest-decided = record { always = λ κs a. tt; determined = λ κs a p z z′ ws ws′ q q′. (q ∙ sym q′, refl) }
 
 pub start-decided : Decided 0 start-k.ps start-k.r start.Pre start.Post
 start-decided = record { always = λ κs a. tt; determined = λ κs a p z z′ ws ws′ q q′. (q ∙ sym q′, refl) }

@@ -8,7 +8,7 @@ ghost use Rattle.meter.specs.Core.{withSums, closedWork};
 ghost use Rattle.alarm.specs.Alarms.{both};
 ghost use Rattle.meter.specs.Blocks.{soundOf, carded, waitOf, blockOf, voltsOf};
 ghost use Rattle.meter.specs.Inside.{begunOf, endOf, stretchOf, fedOf, cardBehind, turnOf, passedOf, voltsPassed};
-ghost use Rattle.meter.specs.Starting.{freshOf, startOf, notStarted};
+ghost use Rattle.meter.specs.Starting.{freshOf, lowestMeter, startOf};
 use address::WordAddr;
 use alarm::Watch;
 use card::Card;
@@ -37,10 +37,10 @@ pub struct Meter {
     pub work: Work,
 }
 
-// What a start answers, and the meter that it makes.
-pub struct Stepped {
-    pub answer: Answer,
-    pub after: Meter,
+// What a start makes of N, B and the six words to track; at its lowest where one of them is out of range.
+pub struct Started {
+    pub ok: bool,
+    pub meter: Meter,
 }
 
 // What a block answers, and meter and watch after it: as they came, if refused.
@@ -264,29 +264,25 @@ fn fresh(n: u32, b: u64, track: [WordAddr; 6]) -> Meter
     }
 }
 
-fn not_started() -> Stepped
-    ensures { λ r. ⌜ r ≡ notStarted ⌝ }
+// N 1, B 1, all slots off.
+pub fn lowest() -> Meter
+    ensures { λ r. ⌜ r ≡ lowestMeter ⌝ }
 {
-    let m = fresh(1, 1, [WordAddr(0); 6]);
-    Stepped {
-        answer: Answer::Refused(7),
-        after: m,
-    }
+    fresh(1, 1, [WordAddr(0); 6])
 }
 
-// A start with N, B and the six words to track: 7.
-pub fn start(n: i64, b: i64, track: [WordAddr; 6]) -> Stepped
+// A start with N, B and the six words to track.
+pub fn start(n: i64, b: i64, track: [WordAddr; 6]) -> Started
     ensures { λ r. ⌜ r ≡ startOf n b track ⌝ }
 {
-    if (1 <= n) & (n <= 4096) & (1 <= b) & (b <= 281474976710655) {
-        if address::all_slots(track) {
-            let m = fresh(n as u32, b as u64, track);
-            return Stepped {
-                answer: Answer::Done,
-                after: m,
-            };
-        }
-        return not_started();
+    let slots = address::all_slots(track);
+    if (1 <= n) & (n <= 4096) & (1 <= b) & (b <= 281474976710655) & slots {
+        let m = fresh(n as u32, b as u64, track);
+        return Started { ok: true, meter: m };
     }
-    not_started()
+    let low = lowest();
+    Started {
+        ok: false,
+        meter: low,
+    }
 }
