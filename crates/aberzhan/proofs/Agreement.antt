@@ -7,8 +7,8 @@ use mathlib.Core.Option.{Option, none, some}
 use lib.IntN.{ℤ}
 use Rattle.steps.specs.Answers.{OrRefusal, refused, accepted, andThen}
 use Rattle.steps.specs.Port.{Port, port0, port1, on}
-use Rattle.steps.specs.Module.{edit, commit, dropCard, hold, read, Step, atPort, block, didEdit, didCommit, didDrop, didHold, didRead, didBlock, Outcome, step}
-use Rattle.steps.specs.Gauge.{Meter, latest, feeds}
+use Rattle.steps.specs.Module.{edit, commit, dropCard, hold, read, Step, atPort, block, reset, didEdit, didCommit, didDrop, didHold, didRead, didBlock, didReset, Outcome, step}
+use Rattle.steps.specs.Gauge.{Metering, latest, passes}
 use Rattle.steps.specs.Calls.{Reply, reply, after}
 use Rattle.steps.proofs.Calls.{Does}
 use Rattle.steps.specs.declared.Answer.the-variants.{Done, Refused}
@@ -17,11 +17,12 @@ use Rattle.address.specs.declared.ByteAddr.{ByteAddr}
 use Rattle.interval.specs.declared.Closed.{Closed}
 use Rattle.sample.specs.Sample.{every24}
 use Rattle.sample.specs.Sums.{Sample, samplesIn}
-use Rattle.meter.specs.declared.Stepped.{Stepped as Metered}
-use Rattle.meter.specs.Core.{core, meterOf, samplesOf}
-use Rattle.meter.specs.Blocks.{waitOf, nextCard, answered, blockOf as meterBlock}
-use Rattle.meter.proofs.Sound.{Sound as SoundMeter}
-use Rattle.meter.proofs.Agreement.{block-feeds}
+use Rattle.alarm.specs.declared.Watch.{Watch}
+use Rattle.alarm.specs.Alarms.{both, clearing, answered as watchAnswered, resetOf as watchReset}
+use Rattle.alarm.proofs.Tests.{good-yes}
+use Rattle.meter.specs.Core.{core, samplesOf, resetWatch, meterOf, meteringOf}
+use Rattle.meter.specs.Blocks.{waitOf, nextCard, blockDone, answered, blockOf as meterBlock, voltsIn, voltsOf}
+use Rattle.meter.proofs.Agreement.{block-passes}
 use Rattle.desk.specs.declared.Desk.{Desk}
 use Rattle.port.specs.declared.Held.{Held}
 use Rattle.desk.specs.Desks.{openWith, writeField, shutDesk, opening, writing, finished, discarded, dropping}
@@ -30,10 +31,11 @@ use Rattle.port.specs.Reading.{look}
 use Rattle.port.specs.declared.Reading.the-variants.{Refused as NotRead}
 use Rattle.port.specs.Answers.{looked}
 use Rattle.aberzhan.specs.declared.Module.{Module}
+use Rattle.aberzhan.specs.declared.Stepped.{Stepped}
 use Rattle.aberzhan.specs.Ports.{aberzhan}
-use Rattle.aberzhan.specs.Module.{deskOf, heldOf, withMeter, portAt, atPort as atPortOf, refusal, notHeld, atDesk, committing, holding, openOf, writeOf, commitOf, dropOf, holdOf, readOf, blockOf}
-use Rattle.aberzhan.specs.Calls.{stateOf, moduleOf, Call, callOpen, callWrite, callCommit, callDrop, callHold, callRead, callBlock, stepOf, numberOf, callOf, readReply, fromStep, fromHold, returned}
-use Rattle.aberzhan.proofs.Soundness.{sounds}
+use Rattle.aberzhan.specs.Module.{deskOf, heldOf, withMeter, watchOf, withWatch, portAt, atPort as atPortOf, refusal, notHeld, atDesk, committing, holding, openOf, writeOf, commitOf, dropOf, holdOf, readOf, blockOf, resetOf}
+use Rattle.aberzhan.specs.Calls.{stateOf, moduleOf, Call, callOpen, callWrite, callCommit, callDrop, callHold, callRead, callBlock, callReset, stepOf, numberOf, callOf, readReply, fromStep, fromHold, returned}
+use Rattle.aberzhan.proofs.Soundness.{SoundModule, sounds}
 use Rattle.aberzhan.proofs.Contracts.{methods, allowed-is}
 
 -- what a call returns, of a step's outcome
@@ -41,42 +43,59 @@ abbrev from : Module → Outcome aberzhan → Reply aberzhan × Module
 from m o = (reply aberzhan o, moduleOf (after aberzhan o (stateOf m)))
 
 -- ---- a block
-block-by : (m : Module) (v i : List ℤ) (q : OrRefusal (Meter core × List Closed)) →
-    let r = answered (m .meter) q in
-    fromStep (record { answer = r .answer; after = withMeter (r .after) m }) ≡ from m (andThen q (didBlock aberzhan (v, i) (stateOf m)))
+abbrev blocked : Module → OrRefusal (Metering core × List Closed) → Stepped
+blocked m q =
+    let r = answered (m .meter) (watchOf m) q in
+    record { answer = r .answer; after = withMeter (r .after) (withWatch (both (r .watch) (voltsIn (watchOf m) q)) m) }
+
+block-by : (m : Module) (v i : List ℤ) (q : OrRefusal (Metering core × List Closed)) →
+    fromStep (blocked m q) ≡ from m (andThen q (didBlock aberzhan (v, i) (stateOf m)))
 block-by m v i (refused n) = refl
 block-by m v i (accepted r) = refl
 
-block-steps : (m : Module) (v i : List ℤ) → SoundMeter (m .meter) → fromStep (blockOf m v i) ≡ from m (step aberzhan (block (v, i)) (stateOf m))
-unfolding blockOf
+block-is : (m : Module) (v i : List ℤ) → SoundModule m → blockOf m v i ≡ blocked m (passes core (samplesOf v i) (latest core (meterOf (m .meter))) (meteringOf (m .meter) (watchOf m)))
+unfolding blockOf meterBlock voltsOf
+block-is m v i h = ap (blocked m) (block-passes (m .meter) (watchOf m) v i (h .0) (good-yes (m .watch) (m .volts) (h .1)))
+
+block-steps : (m : Module) (v i : List ℤ) → SoundModule m → fromStep (blockOf m v i) ≡ from m (step aberzhan (block (v, i)) (stateOf m))
 block-steps m v i h =
-    ap (λ (r : Metered). fromStep (record { answer = r .answer; after = withMeter (r .after) m })) (block-feeds (m .meter) v i h)
-    ∙ block-by m v i (feeds core (samplesOf v i) (latest core (meterOf (m .meter))) (meterOf (m .meter)))
+    ap fromStep (block-is m v i h) ∙ block-by m v i (passes core (samplesOf v i) (latest core (meterOf (m .meter))) (meteringOf (m .meter) (watchOf m)))
 
 -- 18, for a sound module
 eighteen-by : (m : Module) (xs : List Sample) (w f : Bool) (x y : Card) →
-    answered (m .meter) (feeds core (accepted xs) (cond w (some x) (cond f (some y) none)) (meterOf (m .meter))) .answer ≡ cond (w || f) Done (Refused 18)
+    blocked m (passes core (accepted xs) (cond w (some x) (cond f (some y) none)) (meteringOf (m .meter) (watchOf m))) .answer ≡ cond (w || f) Done (Refused 18)
 eighteen-by m xs true f x y = refl
 eighteen-by m xs false true x y = refl
 eighteen-by m xs false false x y = refl
 
 -- of a block whose samples are well formed: 18 is given exactly when no card is in force and none waits
-pub eighteen : (m : Module) (v i : List ℤ) (xs : List Sample) → SoundMeter (m .meter) → samplesOf v i ≡ accepted xs →
+pub eighteen : (m : Module) (v i : List ℤ) (xs : List Sample) → SoundModule m → samplesOf v i ≡ accepted xs →
     blockOf m v i .answer ≡ cond (m .meter .waits || m .meter .forced) Done (Refused 18)
-unfolding blockOf
 eighteen m v i xs h e =
-    ap (λ (s : Metered). s .answer) (block-feeds (m .meter) v i h)
-    ∙ ap (λ (q : OrRefusal (List Sample)). answered (m .meter) (feeds core q (latest core (meterOf (m .meter))) (meterOf (m .meter))) .answer) e
+    ap (λ (s : Stepped). s .answer) (block-is m v i h)
+    ∙ ap (λ (q : OrRefusal (List Sample)). blocked m (passes core q (latest core (meterOf (m .meter))) (meteringOf (m .meter) (watchOf m))) .answer) e
     ∙ eighteen-by m xs (m .meter .waits) (m .meter .forced) (m .meter .waiting) (m .meter .force)
 
 -- an empty block, if accepted, changes nothing
-empty-by : (m : Module) (o : Option Card) → withMeter (answered (m .meter) (feeds core (accepted []) o (meterOf (m .meter))) .after) m ≡ m
+empty-by : (m : Module) (o : Option Card) → blocked m (passes core (accepted []) o (meteringOf (m .meter) (watchOf m))) .after ≡ m
 empty-by m none = refl
 empty-by m (some c) = refl
 
 pub empty-block : (m : Module) → blockOf m [] [] .after ≡ m
-unfolding blockOf meterBlock samplesOf every24 samplesIn
-empty-block m = empty-by m (nextCard (m .meter))
+unfolding blockOf meterBlock voltsOf blockDone samplesOf every24 samplesIn
+empty-block m = empty-by m (nextCard (m .meter) (watchOf m))
+
+-- ---- a reset
+reset-by : (m : Module) (mask : ℤ) (q : OrRefusal Watch) →
+    let r = watchAnswered (m .watch) q in
+    fromStep (record { answer = r .answer; after = withWatch (both (r .after) (m .volts)) m }) ≡
+    from m (andThen (andThen (andThen q (λ a. both a (m .volts))) (λ w. record { intervals = meterOf (m .meter); watch = w })) (didReset aberzhan mask (stateOf m)))
+reset-by m mask (refused n) = refl
+reset-by m mask (accepted a) = refl
+
+reset-steps : (m : Module) (mask : ℤ) → fromStep (resetOf m mask) ≡ from m (step aberzhan (reset mask) (stateOf m))
+unfolding resetOf watchReset resetWatch
+reset-steps m mask = reset-by m mask (clearing (m .watch) mask)
 
 -- ---- a step at a port
 desk-is : (m : Module) (p : Port) → deskOf m p ≡ on (stateOf m .desks) p
@@ -141,7 +160,7 @@ module _ (m : Module) where
   read-at none a = refl
   read-at (some p) a = read-by m p a (look (heldOf m p) a) ∙ ap (λ (h : Held). from m (andThen (andThen (look h a) register) (didRead aberzhan p a (stateOf m)))) (held-is m p)
 
-pub call-does : (k : Call) (m : Module) → SoundMeter (m .meter) → returned k m ≡ from m (step aberzhan (stepOf k) (stateOf m))
+pub call-does : (k : Call) (m : Module) → SoundModule m → returned k m ≡ from m (step aberzhan (stepOf k) (stateOf m))
 unfolding openOf writeOf commitOf dropOf holdOf readOf
 call-does (callOpen p text) m h = open-at m (portAt p) text
 call-does (callWrite p f v) m h = write-at m (portAt p) f v
@@ -150,6 +169,7 @@ call-does (callDrop p) m h = drop-at m (portAt p)
 call-does (callHold p) m h = hold-at m (portAt p)
 call-does (callRead p a) m h = read-at m (portAt p) a
 call-does (callBlock v i) m h = block-steps m v i h
+call-does (callReset mask) m h = reset-steps m mask
 
 -- ---- every step has its call
 number-port : (o : Option Port) → portAt (numberOf o) ≡ o
@@ -166,6 +186,7 @@ step-call (atPort o dropCard) = ap (λ (o : Option Port). atPort o dropCard) (nu
 step-call (atPort o (hold k)) = ap (λ (o : Option Port). atPort o (hold k)) (number-port o)
 step-call (atPort o (read a)) = ap (λ (o : Option Port). atPort o (read a)) (number-port o)
 step-call (block b) = refl
+step-call (reset mask) = refl
 
 -- ---- so what the contracts allow is what the steps do
 pub does : Does aberzhan sounds methods

@@ -8,6 +8,7 @@ use denote.Ref.{now}
 use Rattle.promise.specs.Determined.{Allowed}
 use Rattle.steps.specs.Calls.{Reply, Methods, Log, noted, Ran, ended, called}
 use Rattle.address.specs.declared.WordAddr.{WordAddr}
+use Rattle.alarm.specs.declared.Asked.{Asked}
 use Rattle.aberzhan.specs.declared.Module.{Module}
 use Rattle.aberzhan.specs.declared.Stepped.{Stepped}
 use Rattle.aberzhan.specs.declared.Holding.{Holding}
@@ -16,7 +17,7 @@ use Rattle.aberzhan.specs.declared.Cards.{Cards}
 use Rattle.aberzhan.specs.Ports.{aberzhan}
 use Rattle.aberzhan.specs.Module.{startOf, holdOf}
 use Rattle.aberzhan.specs.Cards.{cardsOf}
-use Rattle.aberzhan.specs.Calls.{stateOf, Call, callOpen, callWrite, callCommit, callDrop, callHold, callRead, callBlock, stepOf, callOf, fromStep, fromHold, fromRead, returned, program}
+use Rattle.aberzhan.specs.Calls.{stateOf, Call, callOpen, callWrite, callCommit, callDrop, callHold, callRead, callBlock, callReset, stepOf, callOf, fromStep, fromHold, fromRead, returned, program}
 use Rattle.aberzhan.proofs.Module.start.Kinds as starts-k
 use Rattle.aberzhan.proofs.Module.start.Reads as starts
 use Rattle.aberzhan.proofs.Module.open.Kinds as opens-k
@@ -33,16 +34,18 @@ use Rattle.aberzhan.proofs.Module.read.Kinds as reads-k
 use Rattle.aberzhan.proofs.Module.read.Reads as reads
 use Rattle.aberzhan.proofs.Module.block.Kinds as blocks-k
 use Rattle.aberzhan.proofs.Module.block.Reads as blocks
+use Rattle.aberzhan.proofs.Module.reset.Kinds as resets-k
+use Rattle.aberzhan.proofs.Module.reset.Reads as resets
 use Rattle.aberzhan.proofs.Module.cards.Kinds as cards-k
 use Rattle.aberzhan.proofs.Module.cards.Reads as cards
 
 -- ---- the contracts
 
 -- `Module::start` may return r
-abbrev pub Starts : ℤ → ℤ → List WordAddr → Stepped → Type 0
-Starts n b track r =
+abbrev pub Starts : ℤ → ℤ → List WordAddr → Asked → Stepped → Type 0
+Starts n b track asked r =
     (κs : Lfts 0) × (a : Dens κs starts-k.ps) × Allowed 0 starts-k.ps starts-k.r starts.Post κs a r
-    × (a .0 ≡ n) × (a .1 .0 ≡ b) × (a .1 .1 .0 ≡ track)
+    × (a .0 ≡ n) × (a .1 .0 ≡ b) × (a .1 .1 .0 ≡ track) × (a .1 .1 .1 .0 ≡ asked)
 
 -- `Module::cards` of the module m may return r
 abbrev pub Shows : Module → Cards → Type 0
@@ -75,6 +78,9 @@ Allows (callRead p b) m o =
 Allows (callBlock v i) m o =
     (κs : Lfts 2) × (a : Dens κs blocks-k.ps) × (r : Stepped) × Allowed 2 blocks-k.ps blocks-k.r blocks.Post κs a r
     × (a .0 ≡ m) × (now (a .1 .0) ≡ v) × (now (a .1 .1 .0) ≡ i) × (o ≡ fromStep r)
+Allows (callReset mask) m o =
+    (κs : Lfts 0) × (a : Dens κs resets-k.ps) × (r : Stepped) × Allowed 0 resets-k.ps resets-k.r resets.Post κs a r
+    × (a .0 ≡ m) × (a .1 .0 ≡ mask) × (o ≡ fromStep r)
 
 -- the module's methods, as crate `steps` has them
 abbrev pub methods : Methods aberzhan
@@ -82,8 +88,8 @@ methods = record { Kept = Module; stateOf = stateOf; Call = Call; stepOf = stepO
 
 -- ---- every outcome that they allow
 
-pub start-is : (n b : ℤ) (track : List WordAddr) (r : Stepped) → Starts n b track r → r ≡ startOf n b track
-start-is n b track r (κs, a, h, e, f, g) = rw (e, f, g) at (h .allowed)
+pub start-is : (n b : ℤ) (track : List WordAddr) (asked : Asked) (r : Stepped) → Starts n b track asked r → r ≡ startOf n b track asked
+start-is n b track asked r (κs, a, h, e, f, g, i) = rw (e, f, g, i) at (h .allowed)
 
 pub shown-is : (m : Module) (r : Cards) → Shows m r → r ≡ cardsOf m
 shown-is m r (κs, a, h, e) = rw e at (h .allowed)
@@ -99,6 +105,7 @@ allowed-is (callDrop p) m o (κs, a, r, h, e, f, q) = q ∙ ap fromStep (rw (e, 
 allowed-is (callHold p) m o (κs, a, r, h, e, f, q) = q ∙ ap fromHold (rw (e, f) at (h .allowed))
 allowed-is (callRead p b) m o (κs, a, r, h, e, f, g, q) = q ∙ ap fromRead (rw (e, f, g) at (h .allowed))
 allowed-is (callBlock v i) m o (κs, a, r, h, e, f, g, q) = q ∙ ap fromStep (rw (e, f, g) at (h .allowed))
+allowed-is (callReset mask) m o (κs, a, r, h, e, f, q) = q ∙ ap fromStep (rw (e, f) at (h .allowed))
 
 -- so whatever comes of calls, one after the other, is what `program` says
 pub ran-is : {ks : List Call} {m : Module} {l : Log aberzhan Module} → Ran aberzhan methods ks m l → l ≡ program ks m

@@ -17,6 +17,8 @@ use Rattle.aberzhan.proofs.Module.read.Kinds as reads-k
 use Rattle.aberzhan.proofs.Module.read.Reads as reads
 use Rattle.aberzhan.proofs.Module.block.Kinds as blocks-k
 use Rattle.aberzhan.proofs.Module.block.Reads as blocks
+use Rattle.aberzhan.proofs.Module.reset.Kinds as resets-k
+use Rattle.aberzhan.proofs.Module.reset.Reads as resets
 use Rattle.aberzhan.proofs.Module.cards.Kinds as cards-k
 use Rattle.aberzhan.proofs.Module.cards.Reads as cards
 
@@ -43,6 +45,9 @@ read-decided = record { always = λ κs a. tt; determined = λ κs a p z z′ ws
 
 pub block-decided : Decided 2 blocks-k.ps blocks-k.r blocks.Pre blocks.Post
 block-decided = record { always = λ κs a. tt; determined = λ κs a p z z′ ws ws′ q q′. (q ∙ sym q′, refl) }
+
+pub reset-decided : Decided 0 resets-k.ps resets-k.r resets.Pre resets.Post
+reset-decided = record { always = λ κs a. tt; determined = λ κs a p z z′ ws ws′ q q′. (q ∙ sym q′, refl) }
 
 pub cards-decided : Decided 0 cards-k.ps cards-k.r cards.Pre cards.Post
 cards-decided = record { always = λ κs a. tt; determined = λ κs a p z z′ ws ws′ q q′. (q ∙ sym q′, refl) }

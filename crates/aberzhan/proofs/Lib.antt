@@ -1,4 +1,5 @@
 -- Laws of the module, what its contracts allow, and that it is what the steps of crate `steps` do.
+pub mod Starts
 pub mod Sides
 pub mod Steps
 pub mod Soundness

@@ -2,15 +2,16 @@
 use Prim.Native.Nat.{ℕ, _-_, _≤_}
 use mathlib.Core.Path.{_≡_, refl, sym, subst}
 use mathlib.Core.Bool.{Bool, true, false, cond, _&&_, true≢false}
-use mathlib.Core.List.{List}
+use mathlib.Core.List.{List, [], _∷_}
+use mathlib.Core.Option.{Option}
 use lib.Dec.{T, eqb, ltb, leb, lit≤}
 use lib.IntN.{ℤ, pos, negsuc, natAbs}
 use lib.Signed.{nonNeg}
 use lib.ListN.{getD, set, length, replicate}
 use lib.Seq.{getD-set-same, getD-set-other, set-out}
 use borrow.Author.Tests.{leb-true, ltb-true, ltb-false, eqb-true, eqb-false}
-use Rattle.steps.specs.Answers.{refused, accepted}
-use Rattle.steps.specs.Gauge.{latest}
+use Rattle.steps.specs.Answers.{OrRefusal, refused, accepted, andThen}
+use Rattle.steps.specs.Gauge.{Meter, Metering, latest, sample, feeds, blockSamples, watches, passes}
 use Rattle.steps.proofs.Sound.{Sound}
 use Rattle.steps.proofs.Outcomes.{refused-never, accepted-is}
 use Rattle.serial.specs.declared.Serial.{Serial}
@@ -22,16 +23,28 @@ use Rattle.address.specs.declared.WordAddr.{WordAddr}
 use Rattle.address.specs.Slots.{off, everySlot}
 use Rattle.sample.specs.Inside.{Phased}
 use Rattle.meter.proofs.Sound.{Sound as SoundMeter}
-use Rattle.meter.specs.Core.{core, samplesOf, keptOf}
-use Rattle.meter.specs.Starting.{numbersOk, freshOf, notStarted, startOf as meterStart}
-use Rattle.steps.specs.declared.Answer.the-variants.{Done}
+use Rattle.sample.specs.Sums.{Sample}
+use Rattle.sample.proofs.Tests.{both-of}
+use Rattle.interval.specs.declared.Closed.{Closed}
+use Rattle.alarm.specs.declared.Asked.{Asked}
+use Rattle.alarm.specs.declared.Limits.{Limits}
+use Rattle.alarm.specs.Masks.{onlyAlarms, namedBy}
+use Rattle.alarm.specs.Alarms.{Watching, both, seenWith, clearedOf, clearing}
+use Rattle.alarm.specs.Starting.{askedOk, limitsIn, freshWatch, lowestLimits, lowestWatch, noVolts}
+use Rattle.alarm.specs.Inside.{Good}
+use Rattle.alarm.proofs.Parts.{good-more}
+use Rattle.alarm.proofs.Starts.{asked-good, lowest-good, cleared-good}
+use Rattle.meter.specs.Core.{core, samplesOf, resetWatch, keptOf}
+use Rattle.meter.specs.Starting.{numbersOk, freshOf, lowestMeter}
+use Rattle.steps.specs.declared.Answer.the-variants.{Done, Refused}
 use Rattle.meter.proofs.Agreement.{feeds-sound, wait-sound}
 use Rattle.meter.proofs.Starts.{numbers-in}
 use Rattle.desk.specs.declared.Desk.{Desk}
 use Rattle.aberzhan.specs.declared.Module.{Module}
+use Rattle.aberzhan.specs.declared.Stepped.{Stepped}
 use Rattle.desk.specs.Desks.{Edit, openWith, writeField, shutDesk, emptyCard, withField, opening, writing, allWritten, cardOn, finished}
 use Rattle.aberzhan.specs.Ports.{aberzhan}
-use Rattle.aberzhan.specs.Module.{freshModule, startOf}
+use Rattle.aberzhan.specs.Module.{freshModule, settingsOk, startOf}
 
 -- ---- the PHASE on a desk
 empty-phased : (s : Serial) → Phased (cardOn (emptyCard s))
@@ -93,28 +106,67 @@ pub finished-phased : (d : Desk) (c : Card) → Phased (cardOn d) → aberzhan .
 unfolding finished
 finished-phased d c i q = card-phased (d .opened) (allWritten (d .written)) (cardOn d) c i q
 
+-- ---- the watch
+abbrev GoodWatch : Watching → Type 0
+GoodWatch q = Good (q .watch) (q .volts)
+
+watches-good : (xs : List Sample) (m : Meter core) (q : Watching) → GoodWatch q → GoodWatch (watches core xs m q)
+watches-good [] m q h = h
+watches-good (x ∷ xs) m q h =
+    let r = sample core (m .taken) m x .0 in
+    watches-good xs r (seenWith (r .force) q (x .0)) (good-more (r .force) (q .watch) (q .volts) (x .0) h)
+
+-- no sum of a sound meter can overflow, and its watch is good
+abbrev pub SoundMetering : Metering core → Type 0
+SoundMetering m = SoundMeter (keptOf (m .intervals)) × GoodWatch (m .watch)
+
+abbrev pub SoundModule : Module → Type 0
+SoundModule m = SoundMeter (m .meter) × Good (m .watch) (m .volts)
+
+pub passes-sound : (q : OrRefusal (List Sample)) (o : Option Card) (m : Metering core) (r : Metering core × List Closed) → passes core q o m ≡ accepted r → SoundMetering m → SoundMetering (r .0)
+passes-sound q o m r e h = by (feeds core q o (m .intervals)) refl e
+  where
+    by : (z : OrRefusal (Meter core × List Closed)) → feeds core q o (m .intervals) ≡ z →
+        andThen z (λ k. (record { intervals = k .0; watch = watches core (blockSamples core q) (m .intervals) (m .watch) }, k .1)) ≡ accepted r → SoundMetering (r .0)
+    by (refused n) f g = refused-never g
+    by (accepted k) f g =
+        subst (λ (r : Metering core × List Closed). SoundMetering (r .0)) (accepted-is g)
+        (feeds-sound q o (m .intervals) k f (h .0), watches-good (blockSamples core q) (m .intervals) (m .watch) (h .1))
+
+pub reset-sound : (m : Metering core) (mask : ℤ) (r : Metering core) → SoundMetering m → aberzhan .clear m mask ≡ accepted r → SoundMetering r
+unfolding resetWatch clearing
+reset-sound m mask r h e = by (onlyAlarms mask) e
+  where
+    by : (b : Bool) →
+        andThen (andThen (cond b (accepted (clearedOf (namedBy mask) (m .watch .watch))) (refused 12)) (λ a. both a (m .watch .volts))) (λ w. record { intervals = m .intervals; watch = w }) ≡ accepted r → SoundMetering r
+    by true g = subst SoundMetering (accepted-is g) (h .0, cleared-good (namedBy mask) (m .watch .watch) (m .watch .volts) (h .1))
+    by false g = refused-never g
+
 -- ---- the steps keep it
 abbrev pub sounds : Sound aberzhan
 sounds = record {
-  OfMeter = λ m. SoundMeter (keptOf m);
+  OfMeter = SoundMetering;
   OfCard = Phased;
   OfDesk = λ d. Phased (cardOn d);
   shut-sound = shut-phased;
   edited-sound = edited-phased;
   finished-sound = finished-phased;
-  wait-sound = λ c m i j. wait-sound m c i j;
-  feed-sound = λ m b r i e. feeds-sound (samplesOf (b .0) (b .1)) (latest core m) m r e i;
+  wait-sound = λ c m i j. (wait-sound (m .intervals) c i (j .0), j .1);
+  feed-sound = λ m b r i e. passes-sound (samplesOf (b .0) (b .1)) (latest core (m .intervals)) m r e i;
+  clear-sound = λ m k r i e. reset-sound m k r i e;
 }
 
 -- ---- what a start returns is a fresh module, taken or refused
-start-by : (P : Module → Type 0) → ((n b : ℕ) (track : List WordAddr) → 1 ≤ n → n ≤ 4096 → P (freshModule (freshOf n b track))) →
-    (n b : ℤ) (track : List WordAddr) (s t : Bool) → numbersOk n b ≡ s →
-    P (freshModule (cond (s && t) (record { answer = Done; after = freshOf (natAbs n) (natAbs b) track }) notStarted .after))
-start-by P f n b track true true e = let r = numbers-in n b e .0 in f (natAbs n) (natAbs b) track (r .1) (r .2)
-start-by P f n b track true false e = f 1 1 (replicate 6 off) (lit≤ tt) (lit≤ tt)
-start-by P f n b track false t e = f 1 1 (replicate 6 off) (lit≤ tt) (lit≤ tt)
+module _ (P : Module → Type 0) (f : (n b : ℕ) (track : List WordAddr) (t : Limits) → 1 ≤ n → n ≤ 4096 → Good (freshWatch t) noVolts → P (freshModule (freshOf n b track) (freshWatch t))) where
+  start-by : (n b : ℤ) (track : List WordAddr) (asked : Asked) (s : Bool) → settingsOk n b track asked ≡ s →
+      P (cond {A = Stepped} s (record { answer = Done; after = freshModule (freshOf (natAbs n) (natAbs b) track) (freshWatch (limitsIn asked)) }) (record { answer = Refused 7; after = freshModule lowestMeter lowestWatch }) .after)
+  unfolding settingsOk
+  start-by n b track asked true e =
+      let k = both-of (numbersOk n b && everySlot track) (askedOk asked) e in
+      let r = numbers-in n b (both-of (numbersOk n b) (everySlot track) (k .0) .0) .0 in
+      f (natAbs n) (natAbs b) track (limitsIn asked) (r .1) (r .2) (asked-good asked (k .1))
+  start-by n b track asked false e = f 1 1 (replicate 6 off) lowestLimits (lit≤ tt) (lit≤ tt) lowest-good
 
-pub from-start : (P : Module → Type 0) → ((n b : ℕ) (track : List WordAddr) → 1 ≤ n → n ≤ 4096 → P (freshModule (freshOf n b track))) →
-    (n b : ℤ) (track : List WordAddr) → P (startOf n b track .after)
-unfolding startOf meterStart
-from-start P f n b track = start-by P f n b track (numbersOk n b) (everySlot track) refl
+  pub from-start : (n b : ℤ) (track : List WordAddr) (asked : Asked) → P (startOf n b track asked .after)
+  unfolding startOf
+  from-start n b track asked = start-by n b track asked (settingsOk n b track asked) refl

@@ -4,14 +4,15 @@ use mathlib.Core.List.{List, [], _∷_}
 use mathlib.Core.Option.{Option, none, some}
 use lib.IntN.{ℤ, pos}
 use Rattle.steps.specs.Port.{Port, port0, port1}
-use Rattle.steps.specs.Module.{edit, commit, dropCard, hold, read, Step, atPort, block, State}
+use Rattle.steps.specs.Module.{edit, commit, dropCard, hold, read, Step, atPort, block, reset, State}
 use Rattle.steps.specs.Calls.{Reply, refuses, done, returns, Log, noneCalled, noted}
 use Rattle.steps.specs.declared.Answer.{Answer}
 use Rattle.steps.specs.declared.Answer.the-variants.{Done, Refused}
 use Rattle.serial.specs.declared.Serial.{Serial}
 use Rattle.address.specs.declared.ByteAddr.{ByteAddr}
 use Rattle.sample.specs.declared.Clips.{Clips}
-use Rattle.meter.specs.Core.{meterOf, keptOf}
+use Rattle.alarm.specs.declared.Alarms.{Alarms}
+use Rattle.meter.specs.Core.{keptOf, meteringOf}
 use Rattle.port.specs.declared.Reading.{Reading}
 use Rattle.port.specs.declared.Reading.the-variants.{Value as ReadOut, Refused as NotRead}
 use Rattle.desk.specs.Desks.{openWith, writeField}
@@ -21,20 +22,22 @@ use Rattle.aberzhan.specs.declared.Stepped.{Stepped}
 use Rattle.aberzhan.specs.declared.Holding.{Holding}
 use Rattle.aberzhan.specs.declared.Looked.{Looked}
 use Rattle.aberzhan.specs.Ports.{aberzhan}
-use Rattle.aberzhan.specs.Module.{portAt, openOf, writeOf, commitOf, dropOf, holdOf, readOf, blockOf}
+use Rattle.aberzhan.specs.Module.{watchOf, portAt, openOf, writeOf, commitOf, dropOf, holdOf, readOf, blockOf, resetOf}
 
 -- ---- the struct as the state of crate `steps`, and back
 
 abbrev pub stateOf : Module → State aberzhan
 stateOf m = record {
-  meter = meterOf (m .meter);
+  meter = meteringOf (m .meter) (watchOf m);
   desks = record { on0 = m .desk0; on1 = m .desk1 };
   holds = record { on0 = m .hold0; on1 = m .hold1 };
 }
 
 abbrev pub moduleOf : State aberzhan → Module
 moduleOf s = record {
-  meter = keptOf (s .meter);
+  meter = keptOf (s .meter .intervals);
+  watch = s .meter .watch .watch;
+  volts = s .meter .watch .volts;
   desk0 = s .desks .on0;
   desk1 = s .desks .on1;
   hold0 = s .holds .on0;
@@ -49,6 +52,7 @@ pub data Call : Type 0 where
   callCommit callDrop callHold : ℤ → Call  -- port
   callRead : ℤ → ByteAddr → Call  -- port, byte address
   callBlock : List ℤ → List ℤ → Call  -- voltage, current
+  callReset : ℤ → Call  -- mask
 
 -- the step that a call asks for, and a call that asks for a step
 abbrev pub stepOf : Call → Step aberzhan
@@ -59,6 +63,7 @@ stepOf (callDrop p) = atPort (portAt p) dropCard
 stepOf (callHold p) = atPort (portAt p) (hold tt)
 stepOf (callRead p a) = atPort (portAt p) (read a)
 stepOf (callBlock v i) = block (v, i)
+stepOf (callReset mask) = reset mask
 
 -- (2 stands for every number that is no port)
 abbrev pub numberOf : Option Port → ℤ
@@ -74,6 +79,7 @@ callOf (atPort o dropCard) = callDrop (numberOf o)
 callOf (atPort o (hold k)) = callHold (numberOf o)
 callOf (atPort o (read a)) = callRead (numberOf o) a
 callOf (block b) = callBlock (b .0) (b .1)
+callOf (reset mask) = callReset mask
 
 -- ---- what a call returns: the reply and the module after it
 
@@ -82,10 +88,10 @@ abbrev pub replyOf : Answer → Reply aberzhan
 replyOf Done = done
 replyOf (Refused n) = refuses n
 
--- a hold that is done returns the interval's number, its serial and its counts of clipped samples
-abbrev pub heldReply : Answer → ℕ → Serial → Clips → Reply aberzhan
-heldReply Done n s k = returns (interval n s k)
-heldReply (Refused r) n s k = refuses r
+-- a hold that is done returns the interval's number, its serial and its counts of clipped samples, and the alarms
+abbrev pub heldReply : Answer → ℕ → Serial → Clips → Alarms → Reply aberzhan
+heldReply Done n s k a = returns (interval n s k a)
+heldReply (Refused r) n s k a = refuses r
 
 -- a read returns the value of a register
 abbrev pub readReply : Reading → Reply aberzhan
@@ -96,7 +102,7 @@ abbrev pub fromStep : Stepped → Reply aberzhan × Module
 fromStep r = (replyOf (r .answer), r .after)
 
 abbrev pub fromHold : Holding → Reply aberzhan × Module
-fromHold r = (heldReply (r .answer) (r .number) (r .serial) (r .clips), r .after)
+fromHold r = (heldReply (r .answer) (r .number) (r .serial) (r .clips) (r .alarms), r .after)
 
 abbrev pub fromRead : Looked → Reply aberzhan × Module
 fromRead r = (readReply (r .answer), r .after)
@@ -109,6 +115,7 @@ returned (callDrop p) m = fromStep (dropOf m p)
 returned (callHold p) m = fromHold (holdOf m p)
 returned (callRead p a) m = fromRead (readOf m p a)
 returned (callBlock v i) m = fromStep (blockOf m v i)
+returned (callReset mask) m = fromStep (resetOf m mask)
 
 -- calls, one after the other, each with the module that the one before returned
 abbrev pub program : List Call → Module → Log aberzhan Module

@@ -6,6 +6,7 @@ use Rattle.steps.specs.Port.{Port, port0, port1}
 use Rattle.steps.specs.declared.Answer.{Answer}
 use Rattle.steps.specs.declared.Answer.the-variants.{Done, Refused}
 use Rattle.card.specs.declared.Card.{Card}
+use Rattle.alarm.specs.Masks.{noAlarms}
 use Rattle.meter.specs.declared.Meter.{Meter}
 use Rattle.meter.specs.Blocks.{waitOf}
 use Rattle.desk.specs.declared.Desk.{Desk}
@@ -50,7 +51,7 @@ waitsIf (Refused n) c m = m
 unfoldable pub committed : Module → ℤ → Finished → Stepped
 committed m port f = deskDid (withMeter (waitsIf (f .answer) (f .card) (m .meter)) m) port (record { answer = f .answer; after = f .after })
 
--- and of a hold; where nothing was copied, the numbers are 0 and the serial none
+-- and of a hold; where nothing was copied, the numbers are 0, the serial none and no alarm is told
 unfoldable pub held : Module → ℤ → Copied → Holding
 held m port c =
     let new = c .held in
@@ -59,5 +60,6 @@ held m port c =
       number = new .closed .number;
       serial = new .closed .serial;
       clips = new .closed .clips;
+      alarms = cond (new .any) (m .watch .alarms) noAlarms;
       after = cond (new .any) (holdPut m port new) m;
     }

@@ -2,7 +2,8 @@
 use Prim.Native.Nat.{ℕ}
 use mathlib.Core.List.{List}
 use mathlib.Core.Option.{Option, none, some}
-use lib.IntN.{ℤ, pos, negsuc}
+use mathlib.Core.Bool.{Bool, cond, _&&_}
+use lib.IntN.{ℤ, pos, negsuc, natAbs}
 use Rattle.steps.specs.Answers.{OrRefusal, refused, accepted}
 use Rattle.steps.specs.Port.{Port, port0, port1, portOf}
 use Rattle.steps.specs.declared.Answer.the-variants.{Done, Refused}
@@ -12,8 +13,14 @@ use Rattle.address.specs.declared.WordAddr.{WordAddr}
 use Rattle.address.specs.declared.ByteAddr.{ByteAddr}
 use Rattle.sample.specs.Sums.{noClips}
 use Rattle.meter.specs.declared.Meter.{Meter}
-use Rattle.meter.specs.Blocks.{waitOf, blockOf as meterBlock}
-use Rattle.meter.specs.Starting.{startOf as meterStart}
+use Rattle.address.specs.Slots.{everySlot}
+use Rattle.alarm.specs.declared.Asked.{Asked}
+use Rattle.alarm.specs.declared.Watch.{Watch}
+use Rattle.alarm.specs.Masks.{noAlarms}
+use Rattle.alarm.specs.Alarms.{Watching, both, resetOf as watchReset}
+use Rattle.alarm.specs.Starting.{askedOk, limitsIn, freshWatch, lowestWatch, noVolts}
+use Rattle.meter.specs.Blocks.{waitOf, blockOf as meterBlock, voltsOf}
+use Rattle.meter.specs.Starting.{numbersOk, freshOf, lowestMeter}
 use Rattle.desk.specs.declared.Desk.{Desk}
 use Rattle.port.specs.declared.Held.{Held}
 use Rattle.port.specs.declared.Reading.the-variants.{Refused as NotRead}
@@ -37,15 +44,30 @@ heldOf m port0 = m .hold0
 heldOf m port1 = m .hold1
 
 abbrev pub withDesk : Port → Desk → Module → Module
-withDesk port0 d m = record { meter = m .meter; desk0 = d; desk1 = m .desk1; hold0 = m .hold0; hold1 = m .hold1 }
-withDesk port1 d m = record { meter = m .meter; desk0 = m .desk0; desk1 = d; hold0 = m .hold0; hold1 = m .hold1 }
+withDesk port0 d m = record { meter = m .meter; watch = m .watch; volts = m .volts; desk0 = d; desk1 = m .desk1; hold0 = m .hold0; hold1 = m .hold1 }
+withDesk port1 d m = record { meter = m .meter; watch = m .watch; volts = m .volts; desk0 = m .desk0; desk1 = d; hold0 = m .hold0; hold1 = m .hold1 }
 
 abbrev pub withHeld : Port → Held → Module → Module
-withHeld port0 h m = record { meter = m .meter; desk0 = m .desk0; desk1 = m .desk1; hold0 = h; hold1 = m .hold1 }
-withHeld port1 h m = record { meter = m .meter; desk0 = m .desk0; desk1 = m .desk1; hold0 = m .hold0; hold1 = h }
+withHeld port0 h m = record { meter = m .meter; watch = m .watch; volts = m .volts; desk0 = m .desk0; desk1 = m .desk1; hold0 = h; hold1 = m .hold1 }
+withHeld port1 h m = record { meter = m .meter; watch = m .watch; volts = m .volts; desk0 = m .desk0; desk1 = m .desk1; hold0 = m .hold0; hold1 = h }
 
 abbrev pub withMeter : Meter → Module → Module
-withMeter n m = record { meter = n; desk0 = m .desk0; desk1 = m .desk1; hold0 = m .hold0; hold1 = m .hold1 }
+withMeter n m = record { meter = n; watch = m .watch; volts = m .volts; desk0 = m .desk0; desk1 = m .desk1; hold0 = m .hold0; hold1 = m .hold1 }
+
+-- what watches the samples, with its last voltages
+abbrev pub watchOf : Module → Watching
+watchOf m = both (m .watch) (m .volts)
+
+abbrev pub withWatch : Watching → Module → Module
+withWatch q m = record {
+  meter = m .meter;
+  watch = q .watch;
+  volts = q .volts;
+  desk0 = m .desk0;
+  desk1 = m .desk1;
+  hold0 = m .hold0;
+  hold1 = m .hold1;
+}
 
 -- "Ports are 0 and 1"
 unfoldable pub portAt : ℤ → Option Port
@@ -89,10 +111,10 @@ dropOf m port = atPort (portAt port) (refusal 8 m) (λ p. atDesk m p (dropping (
 
 -- ---- readings
 
--- hold: 8, 14. Returns the interval's number, its serial and its counts of clipped samples, and replaces an earlier hold; no serial and
--- all three 0 if it is refused.
+-- hold: 8, 14. Returns the interval's number, its serial and its counts of clipped samples, and the alarms as they are now; replaces an earlier
+-- hold. No serial, no alarm and all three numbers 0 if it is refused.
 abbrev pub notHeld : ℕ → Module → Holding
-notHeld n m = record { answer = Refused n; number = 0; serial = noSerial; clips = noClips; after = m }
+notHeld n m = record { answer = Refused n; number = 0; serial = noSerial; clips = noClips; alarms = noAlarms; after = m }
 
 abbrev pub holding : Module → Port → OrRefusal Held → Holding
 holding m p (refused n) = notHeld n m
@@ -101,6 +123,7 @@ holding m p (accepted h) = record {
   number = h .closed .number;
   serial = h .closed .serial;
   clips = h .closed .clips;
+  alarms = m .watch .alarms;
   after = withHeld p h m;
 }
 
@@ -113,16 +136,28 @@ holdOf m port =
 unfoldable pub readOf : Module → ℤ → ByteAddr → Looked
 readOf m port a = record { answer = atPort (portAt port) (NotRead 8) (λ p. looked (look (heldOf m p) a)); after = m }
 
--- ---- samples, and the start
+-- ---- samples, a reset, and the start
 
 -- block: 5, 6, 18
 unfoldable pub blockOf : Module → List ℤ → List ℤ → Stepped
-blockOf m v i = let r = meterBlock (m .meter) v i in record { answer = r .answer; after = withMeter (r .after) m }
+blockOf m v i =
+    let r = meterBlock (m .meter) (watchOf m) v i in
+    record { answer = r .answer; after = withMeter (r .after) (withWatch (both (r .watch) (voltsOf (m .meter) (watchOf m) v i)) m) }
 
--- no port is open, nothing is held
-unfoldable pub freshModule : Meter → Module
-freshModule m = record { meter = m; desk0 = shutDesk; desk1 = shutDesk; hold0 = nothingHeld; hold1 = nothingHeld }
+-- reset: 12
+unfoldable pub resetOf : Module → ℤ → Stepped
+resetOf m mask = let r = watchReset (m .watch) mask in record { answer = r .answer; after = withWatch (both (r .after) (m .volts)) m }
 
--- start: 7
-unfoldable pub startOf : ℤ → ℤ → List WordAddr → Stepped
-startOf n b track = let r = meterStart n b track in record { answer = r .answer; after = freshModule (r .after) }
+-- no voltage has come, no port is open, nothing is held
+unfoldable pub freshModule : Meter → Watch → Module
+freshModule m a = record { meter = m; watch = a; volts = noVolts; desk0 = shutDesk; desk1 = shutDesk; hold0 = nothingHeld; hold1 = nothingHeld }
+
+-- start: 7, if any setting is out of range; then all are at their lowest
+unfoldable pub settingsOk : ℤ → ℤ → List WordAddr → Asked → Bool
+settingsOk n b track asked = numbersOk n b && everySlot track && askedOk asked
+
+unfoldable pub startOf : ℤ → ℤ → List WordAddr → Asked → Stepped
+startOf n b track asked =
+    cond (settingsOk n b track asked)
+    (record { answer = Done; after = freshModule (freshOf (natAbs n) (natAbs b) track) (freshWatch (limitsIn asked)) })
+    (record { answer = Refused 7; after = freshModule lowestMeter lowestWatch })

@@ -3,7 +3,7 @@ use Prim.Native.Nat.{ℕ}
 use mathlib.Core.Path.{_≡_, refl}
 use Rattle.steps.specs.Answers.{refused, andThen}
 use Rattle.steps.specs.Parts.{Parts}
-use Rattle.steps.specs.Gauge.{Ports, Meter, partsOf}
+use Rattle.steps.specs.Gauge.{Ports, Metering, partsOf}
 use Rattle.card.specs.declared.Card.{Card}
 use Rattle.address.specs.declared.ByteAddr.{ByteAddr}
 use Rattle.meter.specs.Core.{core}
@@ -18,8 +18,8 @@ pub nothing-read : (a : ByteAddr) → (n : ℕ) × (andThen (look nothingHeld a)
 unfolding look
 nothing-read a = (15, refl)
 
--- there is one kind of hold
-abbrev pub ports : Ports (Meter core) Card
+-- there is one kind of hold; it tells the alarms as they are when it is taken
+abbrev pub ports : Ports (Metering core) Card
 ports = record {
   Desk = Desk;
   Edit = Edit;
@@ -32,8 +32,8 @@ ports = record {
   finished = finished;
   discarded = discarded;
   unheld = nothingHeld;
-  copy = λ k m. copied (m .work .any) (m .work .last) (m .work .settings .track);
-  told = λ k h. told h;
+  copy = λ k m. copied (m .intervals .work .any) (m .intervals .work .last) (m .intervals .work .settings .track);
+  told = λ k m h. told (m .watch .watch .alarms) h;
   look = λ h a. andThen (look h a) register;
   unheld-refuses = nothing-read;
 }

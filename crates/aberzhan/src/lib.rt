@@ -1,10 +1,13 @@
 // The module: two ports that stage cards and hold readings, before the meter.
 ghost use mathlib.Core.Path.{_≡_};
-ghost use Rattle.aberzhan.specs.Module.{refusal, openOf, writeOf, commitOf, dropOf, holdOf, readOf, blockOf, freshModule, startOf};
+ghost use Rattle.aberzhan.specs.Module.{refusal, openOf, writeOf, commitOf, dropOf, holdOf, readOf, blockOf, resetOf, freshModule, startOf};
 ghost use Rattle.aberzhan.specs.Cards.{serialIf, cardsOf};
 ghost use Rattle.aberzhan.specs.Inside.{isPort, deskAt, holdAt, deskDid, waitsIf, committed, held};
 use address::ByteAddr;
 use address::WordAddr;
+use alarm::Alarms;
+use alarm::Asked;
+use alarm::Watch;
 use card::Card;
 use desk::Desk;
 use desk::Desked;
@@ -17,9 +20,11 @@ use sample::Clips;
 use serial::Serial;
 use steps::Answer;
 
-// What each step takes and hands back. Port k has the desk and the hold with its number.
+// What each step takes and hands back. volts: the last voltages that the watch has seen. Port k has the desk and the hold with its number.
 pub struct Module {
     meter: Meter,
+    watch: Watch,
+    volts: [i32; 512],
     desk0: Desk,
     desk1: Desk,
     hold0: Held,
@@ -32,12 +37,14 @@ pub struct Stepped {
     pub after: Module,
 }
 
-// What a hold returns: beside the answer the interval's number, its serial and how many of its samples were clipped; 0 and none if it is refused.
+// What a hold returns: beside the answer the interval's number, its serial and how many of its samples were clipped, and the alarms as they are now;
+// 0 and none if it is refused.
 pub struct Holding {
     pub answer: Answer,
     pub number: u32,
     pub serial: Serial,
     pub clips: Clips,
+    pub alarms: Alarms,
     pub after: Module,
 }
 
@@ -77,14 +84,16 @@ fn waits_if(answer: Answer, c: Card, m: Meter) -> Meter
 }
 
 impl Module {
-    // No port is open, nothing is held.
-    fn fresh(m: Meter) -> Module
-        ensures { λ r. ⌜ r ≡ freshModule m ⌝ }
+    // No voltage has come, no port is open, nothing is held.
+    fn fresh(m: Meter, watch: Watch) -> Module
+        ensures { λ r. ⌜ r ≡ freshModule m watch ⌝ }
     {
         let shut = Desk::shut();
         let nothing = Held::nothing();
         Module {
             meter: m,
+            watch,
+            volts: [0; 512],
             desk0: shut,
             desk1: shut,
             hold0: nothing,
@@ -92,14 +101,26 @@ impl Module {
         }
     }
 
-    // A start with N, B and the six words to track: 7.
-    pub fn start(n: i64, b: i64, track: [WordAddr; 6]) -> Stepped
-        ensures { λ r. ⌜ r ≡ startOf n b track ⌝ }
+    // A start with N, B, the six words to track, and what is asked of the watch: 7.
+    pub fn start(n: i64, b: i64, track: [WordAddr; 6], asked: Asked) -> Stepped
+        ensures { λ r. ⌜ r ≡ startOf n b track asked ⌝ }
     {
         let r = meter::start(n, b, track);
-        let answer = r.answer;
-        let after = Module::fresh(r.after);
-        Stepped { answer, after }
+        let w = alarm::start(asked);
+        if r.ok & w.ok {
+            let after = Module::fresh(r.meter, w.watch);
+            return Stepped {
+                answer: Answer::Done,
+                after,
+            };
+        }
+        let m = meter::lowest();
+        let watch = alarm::lowest();
+        let after = Module::fresh(m, watch);
+        Stepped {
+            answer: Answer::Refused(7),
+            after,
+        }
     }
 
     fn desk(self, port: i64) -> Desk
@@ -209,7 +230,12 @@ impl Module {
         let serial = c.held.closed.serial;
         let clips = c.held.closed.clips;
         let h = c.held;
+        let mut alarms = Alarms {
+            sag: false,
+            surge: false,
+        };
         if h.any {
+            alarms = self.watch.alarms;
             if port < 1 {
                 self.hold0 = h;
             } else {
@@ -221,6 +247,7 @@ impl Module {
             number: c.held.closed.number,
             serial,
             clips,
+            alarms,
             after: self,
         }
     }
@@ -240,6 +267,10 @@ impl Module {
             number: 0,
             serial: none,
             clips: Clips { v: 0, i: 0 },
+            alarms: Alarms {
+                sag: false,
+                surge: false,
+            },
             after: self,
         }
     }
@@ -263,12 +294,31 @@ impl Module {
     pub fn block(mut self, v: &[i32], i: &[i32]) -> Stepped
         ensures { λ r. ⌜ r ≡ blockOf self (now (v .entry)) (now (i .entry)) ⌝ }
     {
-        let r = self.meter.block(v, i);
-        let said = r.answer;
+        let m = self.meter;
+        let a = self.watch;
+        let r = m.block(a, &mut self.volts, v, i);
+        let answer = r.answer;
         let after = r.after;
+        let watch = r.watch;
         self.meter = after;
+        self.watch = watch;
         Stepped {
-            answer: said,
+            answer,
+            after: self,
+        }
+    }
+
+    // Reset: 12. Clears the alarms that the mask names.
+    pub fn reset(mut self, mask: i64) -> Stepped
+        ensures { λ r. ⌜ r ≡ resetOf self mask ⌝ }
+    {
+        let a = self.watch;
+        let r = a.reset(mask);
+        let answer = r.answer;
+        let watch = r.after;
+        self.watch = watch;
+        Stepped {
+            answer,
             after: self,
         }
     }

@@ -5,4 +5,7 @@ pub mod Comparing
 pub mod Parts
 pub mod Tests
 pub mod Starts
+pub mod Rings
+pub mod Standing
+pub mod History
 pub mod Decided

@@ -3,4 +3,5 @@ pub mod Masks
 pub mod Alarms
 pub mod Starting
 pub mod Passing
+pub mod History
 pub mod Inside

@@ -1,30 +1,34 @@
 -- The code's block and the block of crate `steps` agree: a sound state passes the test, samples and a waiting card keep it sound, and for a sound
 -- state 18 is given exactly when no card is in force and none waits.
 use Prim.Native.Nat.{ℕ}
-use mathlib.Core.Path.{_≡_, sym, ap, subst}
-use mathlib.Core.Bool.{Bool, cond, _&&_, _||_}
+use mathlib.Core.Path.{_≡_, sym, ap, ap₂, subst}
+use mathlib.Core.Bool.{Bool, true, cond, _&&_, _||_}
 use mathlib.Core.List.{List, [], _∷_}
 use mathlib.Core.Option.{Option, none, some}
 use native.Mathlib.Omega.{arith}
 use lib.IntN.{ℤ}
 use Rattle.steps.specs.Answers.{OrRefusal, refused, accepted}
-use Rattle.steps.specs.Gauge.{Meter, latest, feeds, samples, waitsFor}
+use Rattle.steps.specs.Gauge.{Meter, latest, feeds, samples, waitsFor, passes}
+use Rattle.alarm.specs.Alarms.{Watching}
+use Rattle.alarm.specs.Passing.{watchSound}
 use Rattle.card.specs.declared.Card.{Card}
 use Rattle.interval.specs.declared.Closed.{Closed}
 use Rattle.sample.specs.Sums.{Sample}
 use Rattle.meter.specs.declared.Meter.{Meter as Kept}
 use Rattle.meter.proofs.Sound.{Sound, sound-yes}
 use Rattle.sample.specs.Inside.{Phased}
-use Rattle.meter.specs.Core.{core, meterOf, keptOf, samplesOf}
+use Rattle.meter.specs.Core.{core, samplesOf, meterOf, keptOf, meteringOf}
 use Rattle.meter.specs.Inside.{fedOf}
-use Rattle.meter.specs.Blocks.{nextCard, carded, answered, blockOf}
+use Rattle.meter.specs.Blocks.{nextCard, carded, blockDone}
 use Rattle.meter.proofs.Stretches.{fed-is, fed-append, fed-none}
 use Rattle.meter.proofs.Keeping.{stretch-sound}
 
 -- ---- so the code's block is the core's
-pub block-feeds : (m : Kept) (v i : List ℤ) → Sound m → blockOf m v i ≡ answered m (feeds core (samplesOf v i) (latest core (meterOf m)) (meterOf m))
-unfolding blockOf nextCard
-block-feeds m v i h = ap (λ (t : Bool). answered m (feeds core (samplesOf v i) (cond t (latest core (meterOf m)) none) (meterOf m))) (sound-yes m h)
+pub block-passes : (m : Kept) (q : Watching) (v i : List ℤ) → Sound m → watchSound q ≡ true →
+    blockDone m q v i ≡ passes core (samplesOf v i) (latest core (meterOf m)) (meteringOf m q)
+unfolding blockDone nextCard
+block-passes m q v i h w =
+    ap₂ (λ (s : Bool) (t : Bool). passes core (samplesOf v i) (cond (s && t) (latest core (meterOf m)) none) (meteringOf m q)) (sound-yes m h) w
 
 -- for a sound state there is a card exactly when one is in force or waits
 pub carded-is : (m : Kept) → Sound m → carded m ≡ (m .waits || m .forced)

@@ -2,6 +2,7 @@
 pub mod Sound
 pub mod Stretches
 pub mod Keeping
+pub mod Watched
 pub mod Ways
 pub mod Agreement
 pub mod Starts

@@ -1,6 +1,6 @@
 -- The ways through a start, and that a fresh meter is sound.
 use Prim.Native.Nat.{ℕ, _≤_}
-use mathlib.Core.Path.{_≡_, refl, sym, ap₂}
+use mathlib.Core.Path.{_≡_, refl, sym, ap}
 use mathlib.Core.Bool.{Bool, true, false, cond, _&&_, true≢false}
 use mathlib.Core.List.{List}
 use lib.Dec.{T, lit≤}
@@ -11,8 +11,8 @@ use Rattle.address.specs.declared.WordAddr.{WordAddr}
 use Rattle.address.specs.Slots.{everySlot}
 use Rattle.meter.proofs.Sound.{Sound}
 use Rattle.sample.specs.Inside.{Phased}
-use Rattle.meter.specs.Starting.{numbersOk, noCard, freshOf, startOf, notStarted}
-use Rattle.steps.specs.declared.Answer.the-variants.{Done}
+use Rattle.meter.specs.Starting.{numbersOk, noCard, freshOf, lowestMeter, startOf}
+use Rattle.meter.specs.declared.Started.{Started}
 
 -- a fresh module is sound
 no-card-phased : Phased noCard
@@ -29,20 +29,12 @@ fresh-sound n b track n1 n2 = record {
 }
 
 -- ---- the ways through a start
-start-by : (s t : Bool) (n b : ℤ) (track : List WordAddr) → numbersOk n b ≡ s → everySlot track ≡ t →
-    startOf n b track ≡ cond (s && t) (record { answer = Done; after = freshOf (natAbs n) (natAbs b) track }) notStarted
+abbrev pub made : Bool → ℤ → ℤ → List WordAddr → Started
+made t n b track = cond t (record { ok = true; meter = freshOf (natAbs n) (natAbs b) track }) (record { ok = false; meter = lowestMeter })
+
+pub start-by : (t : Bool) (n b : ℤ) (track : List WordAddr) → (numbersOk n b && everySlot track) ≡ t → made t n b track ≡ startOf n b track
 unfolding startOf
-start-by s t n b track e f = ap₂ (λ (s : Bool) (t : Bool). cond (s && t) (record { answer = Done; after = freshOf (natAbs n) (natAbs b) track }) notStarted) e f
-
-module _ (n b : ℤ) (track : List WordAddr) where
-  pub start-done : numbersOk n b ≡ true → everySlot track ≡ true → record { answer = Done; after = freshOf (natAbs n) (natAbs b) track } ≡ startOf n b track
-  start-done e f = sym (start-by true true n b track e f)
-
-  pub start-slots : numbersOk n b ≡ true → everySlot track ≡ false → notStarted ≡ startOf n b track
-  start-slots e f = sym (start-by true false n b track e f)
-
-  pub start-not : numbersOk n b ≡ false → notStarted ≡ startOf n b track
-  start-not e = sym (start-by false (everySlot track) n b track e refl)
+start-by t n b track e = ap (λ (t : Bool). made t n b track) (sym e)
 
 -- the numbers of a start that is taken
 both-of : (s t : Bool) → s && t ≡ true → (s ≡ true) × (t ≡ true)

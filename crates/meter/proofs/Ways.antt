@@ -8,17 +8,18 @@ use lib.Dec.{eqb, leb}
 use lib.IntN.{ℤ}
 use lib.ListN.{length}
 use Rattle.steps.specs.Answers.{OrRefusal, refused, accepted}
-use Rattle.steps.specs.Gauge.{latest, feeds}
+use Rattle.steps.specs.Gauge.{latest, samples, watches, passes}
 use Rattle.card.specs.declared.Card.{Card}
 use Rattle.meter.specs.declared.Meter.{Meter as Kept}
 use Rattle.steps.specs.declared.Answer.the-variants.{Done, Refused}
-use Rattle.sample.specs.Sums.{Sample}
-use Rattle.sample.specs.Sums.{samplesIn}
+use Rattle.sample.specs.Sums.{Sample, samplesIn}
 use Rattle.sample.specs.Sample.{every24}
 use Rattle.sample.proofs.Tests.{both-of}
-use Rattle.meter.specs.Core.{core, meterOf, samplesOf}
-use Rattle.meter.specs.Inside.{fedOf}
-use Rattle.meter.specs.Blocks.{soundOf, nextCard, carded, answered, blockOf}
+use Rattle.alarm.specs.Alarms.{Watching}
+use Rattle.alarm.specs.Passing.{watchSound}
+use Rattle.meter.specs.Core.{core, samplesOf, meterOf, keptOf, meteringOf}
+use Rattle.meter.specs.Inside.{fedOf, passedOf, voltsPassed}
+use Rattle.meter.specs.Blocks.{soundOf, nextCard, carded, blockDone, answered, blockOf, voltsIn, voltsOf}
 
 -- ---- the ways through a block
 -- which card, by the flags
@@ -32,22 +33,52 @@ no-flags true f a b e = absurd (true≢false e)
 no-flags false true a b e = absurd (true≢false e)
 no-flags false false a b e = refl
 
-card-some : (m : Kept) → carded m ≡ true → (c : Card) × (nextCard m ≡ some c)
+card-some : (m : Kept) (q : Watching) → carded m ≡ true → watchSound q ≡ true → (c : Card) × (nextCard m q ≡ some c)
 unfolding carded nextCard
-card-some m e =
+card-some m q e w =
     let b = both-of (soundOf m) (m .waits || m .forced) e in
     let f = by-flags (m .waits) (m .forced) (m .waiting) (m .force) (b .1) in
-    (f .0, ap (λ (t : Bool). cond t (latest core (meterOf m)) none) (b .0) ∙ f .1)
+    (f .0, ap₂ (λ (s : Bool) (t : Bool). cond (s && t) (latest core (meterOf m)) none) (b .0) w ∙ f .1)
 
-card-by : (s : Bool) (m : Kept) → s && (m .waits || m .forced) ≡ false → cond s (latest core (meterOf m)) none ≡ none
-card-by true m e = no-flags (m .waits) (m .forced) (m .waiting) (m .force) e
-card-by false m e = refl
+card-by : (s t : Bool) (m : Kept) → s && (m .waits || m .forced) ≡ false → cond (s && t) (latest core (meterOf m)) none ≡ none
+card-by true true m e = no-flags (m .waits) (m .forced) (m .waiting) (m .force) e
+card-by true false m e = refl
+card-by false t m e = refl
 
-card-none : (m : Kept) → carded m ≡ false → nextCard m ≡ none
+pub card-none : (m : Kept) (q : Watching) → carded m ≡ false → nextCard m q ≡ none
 unfolding carded nextCard
-card-none m e = card-by (soundOf m) m e
+card-none m q e = card-by (soundOf m) (watchSound q) m e
 
-module _ (m : Kept) (v i : List ℤ) where
+pub watch-none : (m : Kept) (q : Watching) → watchSound q ≡ false → nextCard m q ≡ none
+unfolding nextCard
+watch-none m q e = ap (λ (t : Bool). cond (soundOf m && t) (latest core (meterOf m)) none) e ∙ by (soundOf m)
+  where
+    by : (s : Bool) → cond (s && false) (latest core (meterOf m)) none ≡ none
+    by true = refl
+    by false = refl
+
+module _ (m : Kept) (q : Watching) (v i : List ℤ) where
+  -- ---- samples that are well formed
+
+  pub pass-18 : nextCard m q ≡ none → (record { answer = Refused 18; after = m; watch = q .watch } ≡ passedOf m q v i) × (q .volts ≡ voltsPassed m q v i)
+  unfolding passedOf voltsPassed
+  pass-18 e =
+      let by : passes core (accepted (samplesIn v i)) (nextCard m q) (meteringOf m q) ≡ refused 18 = ap (λ (o : Option Card). passes core (accepted (samplesIn v i)) o (meteringOf m q)) e in
+      (sym (ap (answered m q) by), sym (ap (voltsIn q) by))
+
+  pub pass-done : (z : Watching) → carded m ≡ true → watchSound q ≡ true → z ≡ watches core (samplesIn v i) (meterOf m) q →
+      (record { answer = Done; after = fedOf m (samplesIn v i); watch = z .watch } ≡ passedOf m q v i) × (z .volts ≡ voltsPassed m q v i)
+  unfolding passedOf voltsPassed fedOf
+  pass-done z c w e =
+      let xs = samplesIn v i in
+      let f = card-some m q c w in
+      let by = ap (λ (o : Option Card). passes core (accepted xs) o (meteringOf m q)) (f .1) in (
+        ap (λ (z : Watching). record { answer = Done; after = keptOf (samples core xs (meterOf m) .0); watch = z .watch }) e ∙ sym (ap (answered m q) by),
+        ap (λ (z : Watching). z .volts) e ∙ sym (ap (voltsIn q) by),
+      )
+
+  -- ---- the tests before it
+
   unequal : eqb (length v) (length i) ≡ false → samplesOf v i ≡ refused 5
   unfolding samplesOf
   unequal e = rw e
@@ -68,27 +99,30 @@ module _ (m : Kept) (v i : List ℤ) where
   unfolding samplesOf
   good e l a b = rw (e, l, a, b)
 
-  refusal : (n : ℕ) → samplesOf v i ≡ refused n → blockOf m v i ≡ record { answer = Refused n; after = m }
-  unfolding blockOf
-  refusal n e = ap (λ (r : OrRefusal (List Sample)). answered m (feeds core r (nextCard m) (meterOf m))) e
+  abbrev Refuses : ℕ → Type 0
+  Refuses n = (record { answer = Refused n; after = m; watch = q .watch } ≡ blockOf m q v i) × (q .volts ≡ voltsOf m q v i)
 
-  pub block-5 : eqb (length v) (length i) ≡ false → record { answer = Refused 5; after = m } ≡ blockOf m v i
-  block-5 e = sym (refusal 5 (unequal e))
+  refusal : (n : ℕ) → samplesOf v i ≡ refused n → Refuses n
+  unfolding blockOf voltsOf blockDone
+  refusal n e =
+      let by = ap (λ (r : OrRefusal (List Sample)). passes core r (nextCard m q) (meteringOf m q)) e in
+      (sym (ap (answered m q) by), sym (ap (voltsIn q) by))
 
-  pub block-5-long : eqb (length v) (length i) ≡ true → leb (length v) 4096 ≡ false → record { answer = Refused 5; after = m } ≡ blockOf m v i
-  block-5-long e l = sym (refusal 5 (too-long e l))
+  pub block-5 : eqb (length v) (length i) ≡ false → Refuses 5
+  block-5 e = refusal 5 (unequal e)
 
-  pub block-6-v : eqb (length v) (length i) ≡ true → leb (length v) 4096 ≡ true → every24 v ≡ false → record { answer = Refused 6; after = m } ≡ blockOf m v i
-  block-6-v e l a = sym (refusal 6 (bad-v e l a))
+  pub block-5-long : eqb (length v) (length i) ≡ true → leb (length v) 4096 ≡ false → Refuses 5
+  block-5-long e l = refusal 5 (too-long e l)
 
-  pub block-6-i : eqb (length v) (length i) ≡ true → leb (length v) 4096 ≡ true → every24 v ≡ true → every24 i ≡ false → record { answer = Refused 6; after = m } ≡ blockOf m v i
-  block-6-i e l a b = sym (refusal 6 (bad-i e l a b))
+  pub block-6-v : eqb (length v) (length i) ≡ true → leb (length v) 4096 ≡ true → every24 v ≡ false → Refuses 6
+  block-6-v e l a = refusal 6 (bad-v e l a)
 
-  module _ (e : eqb (length v) (length i) ≡ true) (l : leb (length v) 4096 ≡ true) (a : every24 v ≡ true) (b : every24 i ≡ true) where
-    pub block-18 : carded m ≡ false → record { answer = Refused 18; after = m } ≡ blockOf m v i
-    unfolding blockOf
-    block-18 c = sym (ap₂ (λ (r : OrRefusal (List Sample)) (o : Option Card). answered m (feeds core r o (meterOf m))) (good e l a b) (card-none m c))
+  pub block-6-i : eqb (length v) (length i) ≡ true → leb (length v) 4096 ≡ true → every24 v ≡ true → every24 i ≡ false → Refuses 6
+  block-6-i e l a b = refusal 6 (bad-i e l a b)
 
-    pub block-done : carded m ≡ true → record { answer = Done; after = fedOf m (samplesIn v i) } ≡ blockOf m v i
-    unfolding blockOf fedOf
-    block-done c = sym (ap₂ (λ (r : OrRefusal (List Sample)) (o : Option Card). answered m (feeds core r o (meterOf m))) (good e l a b) (card-some m c .1))
+  pub block-pass : eqb (length v) (length i) ≡ true → leb (length v) 4096 ≡ true → every24 v ≡ true → every24 i ≡ true →
+      (passedOf m q v i ≡ blockOf m q v i) × (voltsPassed m q v i ≡ voltsOf m q v i)
+  unfolding blockOf voltsOf blockDone passedOf voltsPassed
+  block-pass e l a b =
+      let by = sym (ap (λ (r : OrRefusal (List Sample)). passes core r (nextCard m q) (meteringOf m q)) (good e l a b)) in
+      (ap (answered m q) by, ap (voltsIn q) by)

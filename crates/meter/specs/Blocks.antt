@@ -5,14 +5,16 @@ use mathlib.Core.Option.{Option, none}
 use lib.Dec.{leb, ltb}
 use lib.IntN.{ℤ}
 use Rattle.steps.specs.Answers.{OrRefusal, refused, accepted}
-use Rattle.steps.specs.Gauge.{Meter, feeds, latest, waitsFor}
+use Rattle.steps.specs.Gauge.{Metering, latest, waitsFor, passes}
 use Rattle.card.specs.declared.Card.{Card}
 use Rattle.interval.specs.declared.Closed.{Closed}
 use Rattle.sample.specs.Sums.{ofAtMost, phaseInRange}
+use Rattle.alarm.specs.Alarms.{Watching}
+use Rattle.alarm.specs.Passing.{watchSound}
 use Rattle.meter.specs.declared.Meter.{Meter as Kept}
 use Rattle.steps.specs.declared.Answer.the-variants.{Done, Refused}
-use Rattle.meter.specs.declared.Stepped.{Stepped}
-use Rattle.meter.specs.Core.{core, meterOf, keptOf, samplesOf}
+use Rattle.meter.specs.declared.Taken.{Taken}
+use Rattle.meter.specs.Core.{core, samplesOf, meterOf, keptOf, meteringOf}
 
 -- no sum of the running interval can overflow: it is not full, its sums can be those of as many samples as it has, and the PHASE of the card in
 -- force and of the one that waits is in its range. Whatever a start and steps make is so (`proofs/Soundness.antt` of crate `aberzhan`), and
@@ -22,9 +24,9 @@ soundOf m =
     let t = m .work .settings in
     leb (t .n) 4096 && ltb (m .taken) (t .n) && ofAtMost (m .taken) (m .work .sums) && phaseInRange (m .waiting) && phaseInRange (m .force)
 
--- the card of the next interval; a state whose sums could overflow, which no steps make, counts as one without a card
-unfoldable pub nextCard : Kept → Option Card
-nextCard m = cond (soundOf m) (latest core (meterOf m)) none
+-- the card of the next interval; a state whose sums could overflow, or whose watch is not sound, which no steps make, counts as one without a card
+unfoldable pub nextCard : Kept → Watching → Option Card
+nextCard m q = cond (soundOf m && watchSound q) (latest core (meterOf m)) none
 
 -- a card is in force or waits
 unfoldable pub carded : Kept → Bool
@@ -34,11 +36,22 @@ carded m = soundOf m && (m .waits || m .forced)
 unfoldable pub waitOf : Card → Kept → Kept
 waitOf c m = keptOf (waitsFor core c (meterOf m))
 
--- document 01's number for each answer, and the meter afterwards: as it came, if refused
-abbrev pub answered : Kept → OrRefusal (Meter core × List Closed) → Stepped
-answered m (refused n) = record { answer = Refused n; after = m }
-answered m (accepted r) = record { answer = Done; after = keptOf (r .0) }
+-- what a block comes to. 18: no card in force and none waits
+unfoldable pub blockDone : Kept → Watching → List ℤ → List ℤ → OrRefusal (Metering core × List Closed)
+blockDone m q v i = passes core (samplesOf v i) (nextCard m q) (meteringOf m q)
 
--- 18: no card in force and none waits
-unfoldable pub blockOf : Kept → List ℤ → List ℤ → Stepped
-blockOf m v i = answered m (feeds core (samplesOf v i) (nextCard m) (meterOf m))
+-- document 01's number for each answer, and meter and watch afterwards: as they came, if refused
+abbrev pub answered : Kept → Watching → OrRefusal (Metering core × List Closed) → Taken
+answered m q (refused n) = record { answer = Refused n; after = m; watch = q .watch }
+answered m q (accepted r) = record { answer = Done; after = keptOf (r .0 .intervals); watch = r .0 .watch .watch }
+
+unfoldable pub blockOf : Kept → Watching → List ℤ → List ℤ → Taken
+blockOf m q v i = answered m q (blockDone m q v i)
+
+-- and the voltages afterwards
+abbrev pub voltsIn : Watching → OrRefusal (Metering core × List Closed) → List ℤ
+voltsIn q (refused n) = q .volts
+voltsIn q (accepted r) = r .0 .watch .volts
+
+unfoldable pub voltsOf : Kept → Watching → List ℤ → List ℤ → List ℤ
+voltsOf m q v i = voltsIn q (blockDone m q v i)

@@ -1,4 +1,4 @@
--- Samples into intervals, as document 01 has it: the card that comes into force, a block.
+-- Samples into intervals, as document 01 has it: the start, the card that comes into force, a block; and the alarms beside them.
 pub mod Starting
 pub mod Core
 pub mod Blocks

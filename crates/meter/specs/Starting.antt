@@ -1,6 +1,6 @@
--- The start of a module: N 1 to 4,096, B 1 to 2^48 - 1, six words to track, each 0 or one that can be tracked; otherwise 7.
+-- The start of a module: N 1 to 4,096, B 1 to 2^48 - 1, six words to track, each 0 or one that can be tracked.
 use Prim.Native.Nat.{ℕ}
-use mathlib.Core.Bool.{Bool, false, cond, _&&_}
+use mathlib.Core.Bool.{Bool, true, false, cond, _&&_}
 use mathlib.Core.List.{List}
 use lib.IntN.{ℤ, pos, natAbs}
 use lib.Signed.{leZ}
@@ -13,8 +13,7 @@ use Rattle.sample.specs.Sums.{noSums}
 use Rattle.interval.specs.Close.{noneClosed}
 use Rattle.meter.specs.declared.Work.{Work}
 use Rattle.meter.specs.declared.Meter.{Meter}
-use Rattle.steps.specs.declared.Answer.the-variants.{Done, Refused}
-use Rattle.meter.specs.declared.Stepped.{Stepped}
+use Rattle.meter.specs.declared.Started.{Started}
 
 -- N and B in range
 unfoldable pub numbersOk : ℤ → ℤ → Bool
@@ -31,9 +30,11 @@ freshWork n b track = record { settings = record { n = n; b = b; track = track }
 unfoldable pub freshOf : ℕ → ℕ → List WordAddr → Meter
 freshOf n b track = record { waits = false; waiting = noCard; forced = false; force = noCard; taken = 0; work = freshWork n b track }
 
--- a refused start: N 1, B 1, all slots off
-abbrev pub notStarted : Stepped
-notStarted = record { answer = Refused 7; after = freshOf 1 1 (replicate 6 off) }
+-- N 1, B 1, all slots off
+abbrev pub lowestMeter : Meter
+lowestMeter = freshOf 1 1 (replicate 6 off)
 
-unfoldable pub startOf : ℤ → ℤ → List WordAddr → Stepped
-startOf n b track = cond (numbersOk n b && everySlot track) (record { answer = Done; after = freshOf (natAbs n) (natAbs b) track }) notStarted
+-- where one of the settings is out of range, all are at their lowest
+unfoldable pub startOf : ℤ → ℤ → List WordAddr → Started
+startOf n b track =
+    cond (numbersOk n b && everySlot track) (record { ok = true; meter = freshOf (natAbs n) (natAbs b) track }) (record { ok = false; meter = lowestMeter })

@@ -5,10 +5,12 @@ ghost use Prim.Native.Nat.{_+_, _-_, _≤_, _<_, min};
 ghost use lib.ListN.{length};
 ghost use Rattle.sample.specs.Sums.{samplesIn};
 ghost use Rattle.meter.specs.Core.{withSums, closedWork};
-ghost use Rattle.meter.specs.Inside.{begunOf, endOf, stretchOf, fedOf};
-ghost use Rattle.meter.specs.Blocks.{soundOf, carded, waitOf, blockOf};
-ghost use Rattle.meter.specs.Starting.{freshOf, startOf, notStarted};
+ghost use Rattle.alarm.specs.Alarms.{both};
+ghost use Rattle.meter.specs.Blocks.{soundOf, carded, waitOf, blockOf, voltsOf};
+ghost use Rattle.meter.specs.Inside.{begunOf, endOf, stretchOf, fedOf, cardBehind, turnOf, passedOf, voltsPassed};
+ghost use Rattle.meter.specs.Starting.{freshOf, lowestMeter, startOf};
 use address::WordAddr;
+use alarm::Watch;
 use card::Card;
 use interval::Closed;
 use interval::Settings;
@@ -35,10 +37,17 @@ pub struct Meter {
     pub work: Work,
 }
 
-// A step's answer, and the meter after it.
-pub struct Stepped {
+// What a start makes of N, B and the six words to track; at its lowest where one of them is out of range.
+pub struct Started {
+    pub ok: bool,
+    pub meter: Meter,
+}
+
+// What a block answers, and meter and watch after it: as they came, if refused.
+pub struct Taken {
     pub answer: Answer,
     pub after: Meter,
+    pub watch: Watch,
 }
 
 impl Work {
@@ -158,37 +167,75 @@ impl Meter {
         self
     }
 
-    // A block of samples: 5, 6, 18.
-    pub fn block(mut self, v: &[i32], i: &[i32]) -> Stepped
-        ensures { λ r. ⌜ r ≡ blockOf self (now (v .entry)) (now (i .entry)) ⌝ }
+    // The card of the next interval.
+    fn card_behind(self) -> Card
+        ensures { λ r. ⌜ r ≡ cardBehind self ⌝ }
+    {
+        if self.waits { self.waiting } else { self.force }
+    }
+
+    // How many samples come before the next interval begins.
+    fn turn(self) -> usize
+        requires { ⌜ soundOf self ≡ true ⌝ }
+        ensures { λ r. ⌜ r ≡ turnOf self ⌝ }
+    {
+        if self.taken == 0 {
+            return 0;
+        }
+        (self.work.settings.n - self.taken) as usize
+    }
+
+    // The samples pass the watch, and are fed: 18. The watch is told once where the card changes, so that its voltages are not copied.
+    fn pass(mut self, a: Watch, volts: &mut [i32; 512], v: &[i32], i: &[i32]) -> Taken
+        requires { ⌜ length (now v) ≡ length (now i) ⌝ }
+        ensures { λ r. ⌜ r ≡ passedOf self (both a (now (volts .entry))) (now (v .entry)) (now (i .entry)) ⌝ }
+        ensures { λ _. ⌜ now (volts .exit) ≡ voltsPassed self (both a (now (volts .entry))) (now (v .entry)) (now (i .entry)) ⌝ }
+    {
+        if self.has_card() {
+            let next = self.card_behind();
+            let turn = self.turn();
+            let p = alarm::pass(a, volts, self.force, next, turn, v);
+            let watch = p.watch;
+            if p.ok {
+                self = self.feed(v, i);
+                return Taken {
+                    answer: Answer::Done,
+                    after: self,
+                    watch,
+                };
+            }
+        }
+        Taken {
+            answer: Answer::Refused(18),
+            after: self,
+            watch: a,
+        }
+    }
+
+    // A block of samples: 5, 6, 18. volts has the last voltages of the watch.
+    pub fn block(self, a: Watch, volts: &mut [i32; 512], v: &[i32], i: &[i32]) -> Taken
+        ensures { λ r. ⌜ r ≡ blockOf self (both a (now (volts .entry))) (now (v .entry)) (now (i .entry)) ⌝ }
+        ensures { λ _. ⌜ now (volts .exit) ≡ voltsOf self (both a (now (volts .entry))) (now (v .entry)) (now (i .entry)) ⌝ }
     {
         let n = v.len();
         if n == i.len() {
             if n <= 4096 {
                 if sample::all_in_range(v) {
                     if sample::all_in_range(i) {
-                        if self.has_card() {
-                            self = self.feed(v, i);
-                            return Stepped {
-                                answer: Answer::Done,
-                                after: self,
-                            };
-                        }
-                        return Stepped {
-                            answer: Answer::Refused(18),
-                            after: self,
-                        };
+                        return self.pass(a, volts, v, i);
                     }
                 }
-                return Stepped {
+                return Taken {
                     answer: Answer::Refused(6),
                     after: self,
+                    watch: a,
                 };
             }
         }
-        Stepped {
+        Taken {
             answer: Answer::Refused(5),
             after: self,
+            watch: a,
         }
     }
 }
@@ -217,29 +264,25 @@ fn fresh(n: u32, b: u64, track: [WordAddr; 6]) -> Meter
     }
 }
 
-fn not_started() -> Stepped
-    ensures { λ r. ⌜ r ≡ notStarted ⌝ }
+// N 1, B 1, all slots off.
+pub fn lowest() -> Meter
+    ensures { λ r. ⌜ r ≡ lowestMeter ⌝ }
 {
-    let m = fresh(1, 1, [WordAddr(0); 6]);
-    Stepped {
-        answer: Answer::Refused(7),
-        after: m,
-    }
+    fresh(1, 1, [WordAddr(0); 6])
 }
 
-// A start with N, B and the six words to track: 7.
-pub fn start(n: i64, b: i64, track: [WordAddr; 6]) -> Stepped
+// A start with N, B and the six words to track.
+pub fn start(n: i64, b: i64, track: [WordAddr; 6]) -> Started
     ensures { λ r. ⌜ r ≡ startOf n b track ⌝ }
 {
-    if (1 <= n) & (n <= 4096) & (1 <= b) & (b <= 281474976710655) {
-        if address::all_slots(track) {
-            let m = fresh(n as u32, b as u64, track);
-            return Stepped {
-                answer: Answer::Done,
-                after: m,
-            };
-        }
-        return not_started();
+    let slots = address::all_slots(track);
+    if (1 <= n) & (n <= 4096) & (1 <= b) & (b <= 281474976710655) & slots {
+        let m = fresh(n as u32, b as u64, track);
+        return Started { ok: true, meter: m };
     }
-    not_started()
+    let low = lowest();
+    Started {
+        ok: false,
+        meter: low,
+    }
 }

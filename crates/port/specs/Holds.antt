@@ -8,6 +8,7 @@ use Rattle.steps.specs.Answers.{OrRefusal, refused, accepted}
 use Rattle.serial.specs.declared.Serial.{Serial}
 use Rattle.address.specs.declared.WordAddr.{WordAddr}
 use Rattle.sample.specs.declared.Clips.{Clips}
+use Rattle.alarm.specs.declared.Alarms.{Alarms}
 use Rattle.interval.specs.declared.Closed.{Closed}
 use Rattle.address.specs.Slots.{off}
 use Rattle.interval.specs.Close.{noneClosed}
@@ -24,10 +25,11 @@ copyOf last track = record { any = true; closed = last; track = track }
 unfoldable pub copied : Bool → Closed → List WordAddr → OrRefusal Held
 copied any last track = cond any (accepted (copyOf last track)) (refused 14)
 
--- what a hold returns, the interval's number, its serial and how many of its samples were clipped; and what a read returns
+-- what a hold returns, the interval's number, its serial and how many of its samples were clipped, and the alarms as they are when it is taken;
+-- and what a read returns
 pub data Value : Type 0 where
-  interval : ℕ → Serial → Clips → Value
+  interval : ℕ → Serial → Clips → Alarms → Value
   register : ℤ → Value
 
-abbrev pub told : Held → Value
-told h = interval (h .closed .number) (h .closed .serial) (h .closed .clips)
+abbrev pub told : Alarms → Held → Value
+told alarms h = interval (h .closed .number) (h .closed .serial) (h .closed .clips) alarms

@@ -9,7 +9,7 @@ block-requires c κs = search needs
 
 returns : tie.Need-returns
 unfolding blockOf
-returns c = simp (c .before .block .ensures)
+returns c = let r = c .before .before .block .ensures in rw (r .0, r .1)
 
 pub block-spec : {M : Type 1} → statement M
 block-spec = tie.close (tie.spec block-requires returns)

@@ -10,6 +10,7 @@ use Rattle.aberzhan.specs.declared.Holding.{Holding}
 use Rattle.aberzhan.specs.Inside.{isPort, held}
 use Rattle.aberzhan.proofs.Steps.{holds, hold-8}
 use Rattle.sample.specs.Sums.{noClips}
+use Rattle.alarm.specs.Masks.{noAlarms}
 use borrow.Author.Needs.{needs}
 use Rattle.aberzhan.proofs.Module.hold.Statement.{statement}
 use Rattle.aberzhan.proofs.Module.hold.Tie as tie
@@ -34,7 +35,7 @@ no-port : (c : tie.Else1) → isPort (c .before .before .args .port) ≡ false
 no-port c = rw (toZ-ofZ (c .before .before .fits .port)) at (sym (c .before .is-port .ensures) ∙ c .if1 .left)
 
 abbrev not-held : Serial → Module → Holding
-not-held s m = record { answer = Refused 8; number = 0; serial = s; clips = noClips; after = m }
+not-held s m = record { answer = Refused 8; number = 0; serial = s; clips = noClips; alarms = noAlarms; after = m }
 
 returns : tie.Need-returns
 returns c =

@@ -7,13 +7,13 @@ use Rattle.aberzhan.proofs.Module.hold_of.Tie as tie
 returns : tie.Need-returns
 unfolding held holdPut sideOf
 returns c =
-    let any = c .before in
+    let any = c .before .before in
     simp (any .if1 .taken, rw (toZ-ofZ (any .before .before .before .before .fits .port)) at (c .if2 .taken))
 
 returns-2 : tie.Need-returns-2
 unfolding held holdPut sideOf
 returns-2 c =
-    let any = c .before in
+    let any = c .before .before in
     simp (any .if1 .taken, rw (toZ-ofZ (any .before .before .before .before .fits .port)) at (c .if2 .left))
 
 returns-3 : tie.Need-returns-3
