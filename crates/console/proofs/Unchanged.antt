@@ -11,19 +11,24 @@ use Rattle.card.specs.declared.Card.{Card}
 use Rattle.address.specs.declared.ByteAddr.{ByteAddr}
 use Rattle.interval.specs.declared.Closed.{Closed}
 use Rattle.steps.specs.Answers.{OrRefusal, refused, accepted}
-use Rattle.steps.specs.Gauge.{Meter, feeds}
+use Rattle.steps.specs.Gauge.{Metering}
 use Rattle.steps.specs.Port.{Port}
 use Rattle.steps.specs.declared.Answer.{Answer}
 use Rattle.steps.specs.declared.Answer.the-variants as answer
-use Rattle.meter.specs.Core.{core, meterOf, samplesOf}
-use Rattle.meter.specs.Blocks.{nextCard, answered, blockOf as meterBlock}
+use Rattle.alarm.specs.declared.Watch.{Watch}
+use Rattle.alarm.specs.declared.Reset.{Reset}
+use Rattle.alarm.specs.Alarms.{both, clearing, answered as watchAnswered, resetOf as watchReset}
+use Rattle.meter.specs.declared.Taken.{Taken}
+use Rattle.meter.specs.Core.{core}
+use Rattle.meter.specs.Blocks.{blockDone, answered, voltsIn, voltsOf, blockOf as meterBlock}
 use Rattle.port.specs.declared.Held.{Held}
 use Rattle.port.specs.Holds.{copied}
 use Rattle.desk.specs.declared.Desk.{Desk}
 use Rattle.desk.specs.Desks.{opening, writing, finished, dropping}
 use Rattle.aberzhan.specs.declared.Module.{Module}
 use Rattle.aberzhan.specs.declared.Stepped.{Stepped}
-use Rattle.aberzhan.specs.Module.{deskOf, withMeter, portAt, atPort, refusal, atDesk, committing, notHeld, holding, openOf, writeOf, commitOf, dropOf, holdOf, readOf, blockOf, resetOf}
+use Rattle.aberzhan.specs.Module.{deskOf, watchOf, withMeter, withWatch, portAt, atPort, refusal, atDesk, committing, notHeld, holding}
+use Rattle.aberzhan.specs.Module.{openOf, writeOf, commitOf, dropOf, holdOf, readOf, blockOf, resetOf}
 use Rattle.console.specs.declared.words.Word.{Word}
 use Rattle.console.specs.declared.words.Word.the-variants as word
 use Rattle.console.specs.declared.turns.Said.{Said}
@@ -88,10 +93,6 @@ commit-kept : (m : Module) (port : ℤ) → Keeps m (steppedTurn (commitOf m por
 unfolding commitOf
 commit-kept m port = at-port m (portAt port) (λ p. committing m p (finished (deskOf m p))) (λ p. commits m p (finished (deskOf m p)))
 
-reset-kept : (m : Module) (mask : ℤ) → Keeps m (steppedTurn (resetOf m mask))
-unfolding resetOf
-reset-kept m mask e = refl
-
 hold-kept : (m : Module) (port : ℤ) → Keeps m (heldTurn (holdOf m port))
 unfolding holdOf
 hold-kept m port = by (portAt port)
@@ -103,13 +104,29 @@ hold-kept m port = by (portAt port)
     by none e = refl
     by (some p) e = holds m p copy e
 
+-- a block's turn by what came of it at the meter
+abbrev taken : Module → Taken → List ℤ → Turn
+taken m r volts = steppedTurn (record { answer = r .answer; after = withMeter (r .after) (withWatch (both (r .watch) volts) m) })
+
 block-kept : (m : Module) (v i : List ℤ) → Keeps m (steppedTurn (blockOf m v i))
-unfolding blockOf meterBlock
-block-kept m v i = by (feeds core (samplesOf v i) (nextCard (m .meter)) (meterOf (m .meter)))
+unfolding blockOf meterBlock voltsOf
+block-kept m v i = by (blockDone (m .meter) (watchOf m) v i)
   where
-    by : (r : OrRefusal (Meter core × List Closed)) → Keeps m (steppedTurn (record { answer = answered (m .meter) r .answer; after = withMeter (answered (m .meter) r .after) m }))
+    by : (r : OrRefusal (Metering core × List Closed)) → Keeps m (taken m (answered (m .meter) (watchOf m) r) (voltsIn (watchOf m) r))
     by (refused n) e = refl
     by (accepted x) e = absurd (false≢true e)
+
+-- a reset's turn by what came of it at the watch
+abbrev cleared : Module → Reset → Turn
+cleared m r = steppedTurn (record { answer = r .answer; after = withWatch (both (r .after) (m .volts)) m })
+
+reset-kept : (m : Module) (mask : ℤ) → Keeps m (steppedTurn (resetOf m mask))
+unfolding resetOf watchReset
+reset-kept m mask = by (clearing (m .watch) mask)
+  where
+    by : (r : OrRefusal Watch) → Keeps m (cleared m (watchAnswered (m .watch) r))
+    by (refused n) e = refl
+    by (accepted a) e = absurd (false≢true e)
 
 start-kept : (m : Module) (s : Stepped) → Keeps m (startedTurn m s)
 unfolding startedTurn
