@@ -1,7 +1,6 @@
 -- `with_items` is a step with numbers and names alone.
 use Prim.Native.Nat.{_≤_}
 use mathlib.Core.Path.{ap, _∙_}
-use native.Mathlib.Omega.{arith}
 use lib.ListN.{length, drop}
 use Rattle.console.specs.declared.unread.Why.{Why}
 use Rattle.console.specs.Turns.{unreadTurn}
