@@ -22,7 +22,7 @@ use Rattle.sample.proofs.Corrections.{corrected-in}
 use Rattle.alarm.specs.declared.Track.{Track}
 use Rattle.alarm.specs.Alarms.{nextPlace, slidSum}
 use Rattle.alarm.specs.Passing.{squares}
-use Rattle.alarm.specs.Inside.{Swing, swept, sweptAll, Kept}
+use Rattle.alarm.specs.Inside.{Swing, movedBy, swept, sweptAll, Kept}
 
 -- ---- sums of squares
 
@@ -97,6 +97,11 @@ kept-slid {w} {at} {sum} {volts} x m h = record {
 }
 
 -- ---- the loop
+
+pub kept-swept : (p : Track) (q : Swing) (raw : ℤ) → Kept (p .w) (q .sweep .at) (q .sweep .sum) (q .volts) →
+    let r = swept p q raw in Kept (p .w) (r .sweep .at) (r .sweep .sum) (r .volts)
+unfolding swept movedBy
+kept-swept p q raw h = kept-slid (corrected raw (p .voffs) (p .vgain)) (corrected-in raw (p .voffs) (p .vgain)) h
 
 pub swept-step : (p : Track) (q : Swing) (v : List ℤ) (k : ℕ) → k < length v → sweptAll p q (drop k v) ≡ sweptAll p (swept p q (getD v k (pos 0))) (drop (k + 1) v)
 unfolding sweptAll

@@ -1,7 +1,7 @@
 -- What this crate's own functions do: the loop over the voltages of one card. No public contract rests on it.
-use Prim.Native.Nat.{ℕ, _+_, _*_, _≤_, _<_}
+use Prim.Native.Nat.{ℕ, _+_, _*_, _≤_, _<_, min, max}
 use mathlib.Core.Path.{_≡_}
-use mathlib.Core.Bool.{Bool, true, false, cond, _&&_, _||_}
+use mathlib.Core.Bool.{Bool, true, false, cond, _&&_}
 use mathlib.Core.List.{List, [], _∷_}
 use lib.Dec.{ltb}
 use lib.IntN.{ℤ, pos}
@@ -11,6 +11,7 @@ use Rattle.card.specs.declared.Card.{Card}
 use Rattle.sample.specs.Fields.{voffs, vgain}
 use Rattle.alarm.specs.declared.Limits.{Limits}
 use Rattle.alarm.specs.declared.Watch.{Watch}
+use Rattle.alarm.specs.declared.Levels.{Levels}
 use Rattle.alarm.specs.declared.Track.{Track}
 use Rattle.alarm.specs.declared.Sweep.{Sweep}
 use Rattle.alarm.specs.Alarms.{nextPlace, slidSum}
@@ -24,17 +25,16 @@ pub record Swing : Type 0 where
 abbrev pub swing : Sweep → List ℤ → Swing
 swing s volts = record { sweep = s; volts = volts }
 
--- a voltage has taken the place of the oldest
-unfoldable pub movedBy : Track → Sweep → ℤ → ℤ → Sweep
-movedBy p t newest oldest =
-    let sum = slidSum (t .sum) newest oldest in
-    record { at = nextPlace (p .w) (t .at); sum = sum; below = t .below || ltb sum (p .low); above = t .above || ltb (p .high) sum }
+-- a voltage has taken the place of the oldest, of w
+unfoldable pub movedBy : ℕ → Sweep → ℤ → ℤ → Sweep
+movedBy w t newest oldest =
+    let sum = slidSum (t .sum) newest oldest in record { at = nextPlace w (t .at); sum = sum; least = min sum (t .least); most = max (t .most) sum }
 
 unfoldable pub swept : Track → Swing → ℤ → Swing
 swept p q raw =
     let x = corrected raw (p .voffs) (p .vgain) in
     let t = q .sweep in
-    record { sweep = movedBy p t x (getD (q .volts) (t .at) (pos 0)); volts = set (q .volts) (t .at) x }
+    record { sweep = movedBy (p .w) t x (getD (q .volts) (t .at) (pos 0)); volts = set (q .volts) (t .at) x }
 
 unfoldable pub sweptAll : Track → Swing → List ℤ → Swing
 sweptAll p q [] = q
@@ -57,14 +57,14 @@ pub record Ranged (t : Limits) : Type 0 where
   pub vsurge : t .vsurge ≤ 8388607
 
 -- what the sum is compared with where W were seen; else, and where a level is off, what no sum is below or above
-unfoldable pub trackOf : Card → Limits → Bool → Track
-trackOf c t full = record {
-  voffs = voffs c;
-  vgain = vgain c;
-  w = t .w;
+unfoldable pub levelsOf : Limits → Bool → Levels
+levelsOf t full = record {
   low = cond full (t .w * (t .vsag * t .vsag)) 0;
   high = cond (full && ltb 0 (t .vsurge)) (t .w * (t .vsurge * t .vsurge)) 18446744073709551615;
 }
+
+unfoldable pub trackOf : Card → ℕ → Track
+trackOf c w = record { voffs = voffs c; vgain = vgain c; w = w }
 
 -- what `watchSound` says
 pub record Good (a : Watch) (volts : List ℤ) : Type 0 where

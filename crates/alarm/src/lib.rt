@@ -11,7 +11,7 @@ ghost use Rattle.alarm.specs.Masks.{onlyAlarms, namedBy};
 ghost use Rattle.alarm.specs.Alarms.{both, resetOf};
 ghost use Rattle.alarm.specs.Starting.{numbersOk, limitsOf, freshWatch, lowestWatch, startOf};
 ghost use Rattle.alarm.specs.Passing.{squares, seenAll, watchSound, passOf, voltsAfter};
-ghost use Rattle.alarm.specs.Inside.{swing, movedBy, sweptAll, trackOf, Kept, Ranged, Good, Uniform};
+ghost use Rattle.alarm.specs.Inside.{swing, movedBy, swept, sweptAll, levelsOf, trackOf, Kept, Ranged, Good, Uniform};
 use card::Card;
 use card::names::VGAIN;
 use card::names::VOFFS;
@@ -184,57 +184,63 @@ impl Watch {
 
 // ---- voltages
 
-// What a voltage of one card is worked with, and what the sum is compared with.
+// What a voltage of one card is worked with.
 pub struct Track {
     pub voffs: i32,
     pub vgain: i32,
     pub w: usize,
-    pub low: u64,
-    pub high: u64,
 }
 
-// What the loop keeps beside the voltages: the place of the oldest, the sum, and whether it was ever below, or above, after a voltage.
+// What the loop keeps beside the voltages: the place of the oldest, the sum, and the least and the greatest that it was after a voltage.
 pub struct Sweep {
     pub at: usize,
     pub sum: u64,
-    pub below: bool,
-    pub above: bool,
+    pub least: u64,
+    pub most: u64,
 }
 
-// A voltage has taken the place of the oldest.
-fn moved(t: Sweep, p: Track, new: i32, old: i32) -> Sweep
+// A voltage has taken the place of the oldest, of w.
+fn moved(t: Sweep, w: usize, new: i32, old: i32) -> Sweep
     requires { ⌜ (t .at < 512) × (t .sum ≤ 512 * 2 ^ 46) × (mag new < 8388608) × (squareOf old ≤ t .sum) ⌝ }
-    ensures { λ r. ⌜ r ≡ movedBy p t new old ⌝ }
+    ensures { λ r. ⌜ r ≡ movedBy w t new old ⌝ }
 {
     let sum = t.sum + number::square(new) - number::square(old);
     let next = t.at + 1;
-    let mut at = next;
-    if next == p.w {
-        at = 0;
-    }
     Sweep {
-        at,
+        at: if next == w { 0 } else { next },
         sum,
-        below: t.below | (sum < p.low),
-        above: t.above | (p.high < sum),
+        least: if sum < t.least { sum } else { t.least },
+        most: if t.most < sum { sum } else { t.most },
     }
 }
 
-// Voltages, one after another: each takes the place of the oldest.
+// A raw voltage, corrected, takes the place of the oldest.
+fn step_on(volts: &mut [i32; 512], t: Sweep, p: Track, raw: i32) -> Sweep
+    requires { ⌜ Kept (p .w) (t .at) (t .sum) (now volts) ⌝ }
+    ensures { λ r. ⌜ swing r (now (volts .exit)) ≡ swept p (swing t (now (volts .entry))) raw ⌝ }
+{
+    let x = correct(raw, p.voffs, p.vgain);
+    let at = t.at;
+    let old = volts[at];
+    let new = x.value;
+    volts[at] = new;
+    moved(t, p.w, new, old)
+}
+
+// Voltages, one after another. (Two a turn: the compiler then clips without a branch.)
 fn slide(volts: &mut [i32; 512], s: Sweep, p: Track, v: &[i32]) -> Sweep
     requires { ⌜ Kept (p .w) (s .at) (s .sum) (now volts) ⌝ }
     ensures { λ r. ⌜ swing r (now (volts .exit)) ≡ sweptAll p (swing s (now (volts .entry))) (now (v .entry)) ⌝ }
 {
     let mut t = s;
     let mut k: usize = 0;
-    while k < v.len() {
-        let x = correct(v[k], p.voffs, p.vgain);
-        let at = t.at;
-        let old = volts[at];
-        let new = x.value;
-        volts[at] = new;
-        t = moved(t, p, new, old);
-        k += 1;
+    while k < v.len() - v.len() % 2 {
+        t = step_on(volts, t, p, v[k]);
+        t = step_on(volts, t, p, v[k + 1]);
+        k += 2;
+    }
+    if k < v.len() {
+        return step_on(volts, t, p, v[k]);
     }
     t
 }
@@ -247,25 +253,33 @@ fn level_of(w: u32, level: u32) -> u64
     w as u64 * (level as u64 * level as u64)
 }
 
-// What voltages of a card are compared with; full: W were seen after each of them. Else, and where a level is off, with what no sum is below or
-// above.
-fn track_of(c: Card, t: Limits, full: bool) -> Track
+// What the sum is compared with; full: W were seen. Else, and where a level is off, what no sum is below or above.
+pub struct Levels {
+    pub low: u64,
+    pub high: u64,
+}
+
+fn levels_of(t: Limits, full: bool) -> Levels
     requires { ⌜ Ranged t ⌝ }
-    ensures { λ r. ⌜ r ≡ trackOf c t full ⌝ }
+    ensures { λ r. ⌜ r ≡ levelsOf t full ⌝ }
 {
-    let f = c.fields;
     let low = if full { level_of(t.w, t.vsag) } else { 0 };
     let high = if full & (0 < t.vsurge) {
         level_of(t.w, t.vsurge)
     } else {
         18446744073709551615
     };
+    Levels { low, high }
+}
+
+fn track_of(c: Card, w: u32) -> Track
+    ensures { λ r. ⌜ r ≡ trackOf c w ⌝ }
+{
+    let f = c.fields;
     Track {
         voffs: f[VOFFS],
         vgain: f[VGAIN],
-        w: t.w as usize,
-        low,
-        high,
+        w: w as usize,
     }
 }
 
@@ -290,18 +304,19 @@ fn part(a: Watch, volts: &mut [i32; 512], c: Card, full: bool, v: &[i32]) -> Wat
         return a;
     }
     let limits = a.limits;
-    let p = track_of(c, limits, full);
+    let p = track_of(c, limits.w);
     let s = Sweep {
         at: a.at as usize,
         sum: a.sum,
-        below: a.alarms.sag,
-        above: a.alarms.surge,
+        least: 18446744073709551615,
+        most: 0,
     };
     let t = slide(volts, s, p, v);
     let seen = seen_after(limits.w, a.seen, v.len());
+    let l = levels_of(limits, full);
     let alarms = Alarms {
-        sag: (limits.sticky.sag & t.below) | (t.sum < p.low),
-        surge: (limits.sticky.surge & t.above) | (p.high < t.sum),
+        sag: (limits.sticky.sag & (a.alarms.sag | (t.least < l.low))) | (t.sum < l.low),
+        surge: (limits.sticky.surge & (a.alarms.surge | (l.high < t.most))) | (l.high < t.sum),
     };
     Watch {
         limits,

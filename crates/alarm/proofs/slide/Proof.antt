@@ -1,127 +1,149 @@
 -- `slide` meets its contract. The loop keeps the window: what it holds, and the voltages that are left, come to what all of them do.
-use Prim.Native.Nat.{_+_, _-_, _≤_, _<_}
+use Prim.Native.Nat.{ℕ, _+_, _-_, _%_, _≤_}
 use native.Mathlib.Omega.{arith}
-use mathlib.Core.Path.{_≡_, refl, sym, ap, _∙_}
+use mathlib.Core.Path.{_≡_, refl, sym, ap, subst, _∙_}
 use borrow.Author.Needs.{needs}
 use denote.Ref.{now}
-use lib.IntN.{ℤ, pos}
-use lib.ListN.{length, getD, drop, set}
+use lib.IntN.{pos}
+use lib.ListN.{length, getD, drop}
 use mir.Syntax.{w32}
-use mir.Val.{SFits, toZ}
+use mir.Val.{SFits}
 use mir.Facts.{toZ-ofZ}
-use lib.Signed.{mag}
-use Rattle.range.proofs.Ranges.{in-fits, in-mag}
-use Rattle.sample.specs.declared.Corrected.{Corrected}
-use Rattle.sample.specs.Sample.{correction, corrected}
-use Rattle.sample.proofs.Corrections.{corrected-in}
-use Rattle.alarm.specs.Inside.{swing, movedBy, swept, sweptAll, Kept}
-use Rattle.alarm.proofs.Windows.{squares-at, every-at, kept-most, kept-slid, swept-step, swept-end}
+use Rattle.alarm.specs.Inside.{Swing, swing, swept, sweptAll, Kept}
+use Rattle.alarm.proofs.Windows.{kept-swept, swept-step, swept-end}
 use Rattle.alarm.proofs.slide.Statement.{statement}
 use Rattle.alarm.proofs.slide.Tie as tie
 
 abbrev Inv-loop : tie.InvT-loop
-Inv-loop volts₀ p v t₀ k₀ volts t k = (k ≤ length v) × Kept (p .w) (t .at) (t .sum) volts × (sweptAll p (swing t volts) (drop k v) ≡ sweptAll p (swing t₀ volts₀) v)
+Inv-loop volts₀ p v t₀ k₀ volts t k =
+    (k ≤ length v - length v % 2) × (k % 2 ≡ 0) × Kept (p .w) (t .at) (t .sum) volts × (sweptAll p (swing t volts) (drop k v) ≡ sweptAll p (swing t₀ volts₀) v)
 
 abbrev μ-loop : tie.MeasureT-loop
 μ-loop volts₀ p v t₀ k₀ volts t k = length v - k
 
 loop-holds : tie.Need-loop-holds Inv-loop μ-loop
-loop-holds c = (omega arith, c .pre, refl)
+loop-holds c = (omega arith, omega arith, c .pre, refl)
 
-mul-correct : tie.Need-mul-correct Inv-loop μ-loop
-mul-correct c = search needs
+sub-loop : tie.Need-sub-loop Inv-loop μ-loop
+sub-loop c = omega arith
 
-shared-slice-copy-out-correct : tie.Need-shared-slice-copy-out-correct Inv-loop μ-loop
-shared-slice-copy-out-correct c = omega arith
+mul-step-on : tie.Need-mul-step-on Inv-loop μ-loop
+mul-step-on c = search needs
 
-correct-requires : tie.Need-correct-requires Inv-loop μ-loop
-correct-requires c κs = search needs
+shared-slice-copy-out-step-on : tie.Need-shared-slice-copy-out-step-on Inv-loop μ-loop
+shared-slice-copy-out-step-on c = search needs
 
--- the place of the oldest
-placed : (c : tie.In-loop Inv-loop μ-loop) → c .before .loop .t .at < 512
-placed c = kept-most (c .before .loop .inv .1) .0
+step-on-requires : tie.Need-step-on-requires Inv-loop μ-loop
+step-on-requires c κs = c .before .before .before .loop .inv .2
 
-mul-old : tie.Need-mul-old Inv-loop μ-loop
-mul-old c = record { fits = omega (arith, placed (c .before .before .before .before)) }
+-- what one voltage leaves, and the second
+first-fits : (c : tie.After-step-on-arg2 Inv-loop μ-loop) → SFits w32 (getD (now (c .before .before .before .before .args .v)) (c .before .before .before .loop .k) (pos 0))
+first-fits c = search needs
 
-element-copy-out-old : tie.Need-element-copy-out-old Inv-loop μ-loop
-element-copy-out-old c = placed (c .before .before .before .before)
+first : (c : tie.After-step-on Inv-loop μ-loop) →
+    let top = c .before .before .before .before in
+    let a = top .before .args in
+    swing (c .step-on .result) (c .step-on .last .0) ≡ swept (a .p) (swing (top .loop .t) (top .loop .volts)) (getD (now (a .v)) (top .loop .k) (pos 0))
+first c = rw (toZ-ofZ (first-fits (c .before))) at (c .step-on .ensures)
 
-mul-new : tie.Need-mul-new Inv-loop μ-loop
-mul-new c = record { fits = omega (arith, placed (c .before .before .before .before .before .before)) }
+first-kept : (c : tie.After-step-on Inv-loop μ-loop) → Kept (c .before .before .before .before .before .args .p .w) (c .step-on .result .at) (c .step-on .result .sum) (c .step-on .last .0)
+first-kept c =
+    let top = c .before .before .before .before in
+    let a = top .before .args in
+    subst (λ (q : Swing). Kept (a .p .w) (q .sweep .at) (q .sweep .sum) (q .volts)) (sym (first c))
+    (kept-swept (a .p) (swing (top .loop .t) (top .loop .volts)) (getD (now (a .v)) (top .loop .k) (pos 0)) (top .loop .inv .2))
 
-element-set-from-new : tie.Need-element-set-from-new Inv-loop μ-loop
-element-set-from-new c = placed (c .before .before .before .before .before .before)
+add-step-on : tie.Need-add-step-on Inv-loop μ-loop
+add-step-on c = search needs
 
--- the raw voltage, corrected
-abbrev raw-of : tie.In-loop Inv-loop μ-loop → ℤ
-raw-of c = getD (now (c .before .before .args .v)) (c .before .loop .k) (pos 0)
+mul-step-on-2 : tie.Need-mul-step-on-2 Inv-loop μ-loop
+mul-step-on-2 c = search needs
 
-voffs-fits : (c : tie.After-struct-told2 Inv-loop μ-loop) → SFits w32 (c .before .before .before .before .before .args .p .voffs)
-voffs-fits c = search needs
+shared-slice-copy-out-step-on-2 : tie.Need-shared-slice-copy-out-step-on-2 Inv-loop μ-loop
+shared-slice-copy-out-step-on-2 c = search needs
 
-vgain-fits : (c : tie.After-struct-told2 Inv-loop μ-loop) → SFits w32 (c .before .before .before .before .before .args .p .vgain)
-vgain-fits c = search needs
+step-on-requires-2 : tie.Need-step-on-requires-2 Inv-loop μ-loop
+step-on-requires-2 c κs = first-kept (c .before .before)
 
-raw-fits : (c : tie.After-correct-arg Inv-loop μ-loop) → SFits w32 (raw-of (c .before))
-raw-fits c = search needs
+second-fits : (c : tie.After-step-on-arg4 Inv-loop μ-loop) →
+    SFits w32 (getD (now (c .before .before .before .before .before .before .before .args .v)) (c .before .before .before .before .before .before .loop .k + 1) (pos 0))
+second-fits c = search needs
 
-corrected-is : (c : tie.After-correct Inv-loop μ-loop) →
-    let here = c .before .before .before .before in
-    let p = here .before .before .args .p in
-    c .correct .result .value ≡ corrected (raw-of here) (p .voffs) (p .vgain)
-unfolding correction
-corrected-is c =
-    ap (λ (r : Corrected). r .value) (c .correct .ensures)
-    ∙ rw (toZ-ofZ (raw-fits (c .before .before .before)), toZ-ofZ (voffs-fits (c .before)), toZ-ofZ (vgain-fits (c .before)))
-
-corrected-small : (c : tie.After-correct Inv-loop μ-loop) → mag (c .correct .result .value) < 8388608
-corrected-small c =
-    let here = c .before .before .before .before in
-    let p = here .before .before .args .p in
-    rw (corrected-is c) (corrected-in (raw-of here) (p .voffs) (p .vgain))
-
-corrected-fits : (c : tie.After-correct Inv-loop μ-loop) → SFits w32 (c .correct .result .value)
-corrected-fits c = in-fits (in-mag _ (corrected-small c))
-
--- the oldest
-old-fits : (c : tie.In-loop Inv-loop μ-loop) → SFits w32 (getD (c .before .loop .volts) (c .before .loop .t .at) (pos 0))
-old-fits c = in-fits (every-at (c .before .loop .volts) (c .before .loop .t .at) (c .before .loop .inv .1 .all24))
-
-moved-requires : tie.Need-moved-requires Inv-loop μ-loop
-moved-requires c κs =
-    let x = c .before .before in
-    let here = x .before .before .before .before in
-    let l = here .before .loop in
-    let m = kept-most (l .inv .1) in
-    (m .0, m .1, rw (toZ-ofZ (corrected-fits x)) (corrected-small x), rw (toZ-ofZ (old-fits here), l .inv .1 .sum-is) (squares-at (l .volts) (l .t .at)))
+second : (c : tie.After-step-on2 Inv-loop μ-loop) →
+    let f = c .before .before .before in
+    let top = f .before .before .before .before in
+    let a = top .before .args in
+    swing (c .step-on2 .result) (c .step-on2 .last .0) ≡
+    swept (a .p) (swept (a .p) (swing (top .loop .t) (top .loop .volts)) (getD (now (a .v)) (top .loop .k) (pos 0))) (getD (now (a .v)) (top .loop .k + 1) (pos 0))
+second c =
+    let f = c .before .before .before in
+    let top = f .before .before .before .before in
+    let a = top .before .args in
+    (rw (toZ-ofZ (second-fits (c .before))) at (c .step-on2 .ensures)) ∙ ap (λ (q : Swing). swept (a .p) q (getD (now (a .v)) (top .loop .k + 1) (pos 0))) (first f)
 
 add-k : tie.Need-add-k Inv-loop μ-loop
-add-k c = omega arith
+add-k c = search needs
 
 loop-less : tie.Need-loop-less Inv-loop μ-loop
-loop-less c = omega arith
+loop-less c = search needs
 
 loop-again : tie.Need-loop-again Inv-loop μ-loop
-unfolding swept movedBy
 loop-again c =
-    let x = c .before .before .before in
-    let here = x .before .before .before .before in
-    let top = here .before in
+    let f = c .before .before .before in
+    let top = f .before .before .before .before in
     let a = top .before .args in
+    let v = now (a .v) in
+    let k = top .loop .k in
+    let i = top .loop .inv in
+    let t = f .before .before .before .loop-test .taken in
     let q = swing (top .loop .t) (top .loop .volts) in
-    let moved-is : c .moved .result ≡ swept (a .p) q (raw-of here) .sweep = c .moved .ensures ∙ rw (toZ-ofZ (corrected-fits x), toZ-ofZ (old-fits here), corrected-is x) in
-    let e = toZ-ofZ (corrected-fits x) ∙ corrected-is x in (
-      omega arith,
-      rw (moved-is, e) (kept-slid (corrected (raw-of here) (a .p .voffs) (a .p .vgain)) (corrected-in (raw-of here) (a .p .voffs) (a .p .vgain)) (top .loop .inv .1)),
-      rw (moved-is, e) (sym (swept-step (a .p) q (now (a .v)) (top .loop .k) (here .loop-test .taken)) ∙ top .loop .inv .2),
+    let x = getD v k (pos 0) in
+    let y = getD v (k + 1) (pos 0) in
+    let r = swept (a .p) (swept (a .p) q x) y in
+    let two : k + 2 ≡ (k + 1) + 1 = omega arith in
+    let e = second c in (
+      omega (arith, i .0, i .1, t),
+      omega (arith, i .1),
+      subst (λ (q : Swing). Kept (a .p .w) (q .sweep .at) (q .sweep .sum) (q .volts)) (sym e) (kept-swept (a .p) (swept (a .p) q x) y (kept-swept (a .p) q x (i .2))),
+      ap (λ (z : Swing). sweptAll (a .p) z (drop (k + 2) v)) e
+          ∙ ap (λ (n : ℕ). sweptAll (a .p) r (drop n v)) two
+          ∙ sym (swept-step (a .p) (swept (a .p) q x) v (k + 1) (omega (arith, i .0, i .1, t)))
+          ∙ sym (swept-step (a .p) q v k (omega (arith, t)))
+          ∙ i .3,
     )
+
+mul-step-on-3 : tie.Need-mul-step-on-3 Inv-loop μ-loop
+mul-step-on-3 c = search needs
+
+shared-slice-copy-out-step-on-3 : tie.Need-shared-slice-copy-out-step-on-3 Inv-loop μ-loop
+shared-slice-copy-out-step-on-3 c = search needs
+
+step-on-requires-3 : tie.Need-step-on-requires-3 Inv-loop μ-loop
+step-on-requires-3 c κs = c .before .before .before .before .loop .inv .2
+
+last-fits : (c : tie.After-step-on-arg6 Inv-loop μ-loop) → SFits w32 (getD (now (c .before .before .before .before .before .args .v)) (c .before .before .before .before .loop .k) (pos 0))
+last-fits c = search needs
 
 returns : tie.Need-returns Inv-loop μ-loop
 returns c =
-    let top = c .before in
+    let t = c .before .before .before in
+    let top = t .before .before in
     let a = top .before .args in
-    sym (swept-end (a .p) (swing (top .loop .t) (top .loop .volts)) (now (a .v)) (top .loop .k) (c .loop-test .left)) ∙ top .loop .inv .2
+    let v = now (a .v) in
+    let k = top .loop .k in
+    let i = top .loop .inv in
+    let q = swing (top .loop .t) (top .loop .volts) in
+    let x = getD v k (pos 0) in
+    (rw (toZ-ofZ (last-fits (c .before))) at (c .step-on3 .ensures))
+    ∙ sym (swept-end (a .p) (swept (a .p) q x) v (k + 1) (omega (arith, i .0, t .before .loop-test .left)))
+    ∙ sym (swept-step (a .p) q v k (t .if1 .taken))
+    ∙ i .3
+
+returns-2 : tie.Need-returns-2 Inv-loop μ-loop
+returns-2 c =
+    let top = c .before .before in
+    let a = top .before .args in
+    sym (swept-end (a .p) (swing (top .loop .t) (top .loop .volts)) (now (a .v)) (top .loop .k) (c .if1 .left)) ∙ top .loop .inv .3
 
 pub slide-spec : {M : Type 1} → statement M
 slide-spec =
@@ -130,15 +152,19 @@ slide-spec =
     Inv-loop
     μ-loop
     loop-holds
-    mul-correct
-    shared-slice-copy-out-correct
-    correct-requires
-    mul-old
-    element-copy-out-old
-    mul-new
-    element-set-from-new
-    moved-requires
+    sub-loop
+    mul-step-on
+    shared-slice-copy-out-step-on
+    step-on-requires
+    add-step-on
+    mul-step-on-2
+    shared-slice-copy-out-step-on-2
+    step-on-requires-2
     add-k
     loop-less
     loop-again
-    returns)
+    mul-step-on-3
+    shared-slice-copy-out-step-on-3
+    step-on-requires-3
+    returns
+    returns-2)
