@@ -48,13 +48,13 @@ least-below a b low = by (ltb a low) (ltb b low) refl refl
     by false true e f = lt-ltb (min b a) low (omega (arith, ltb-true b low f))
     by false false e f = le-ltb (min b a) low (omega (arith, ltb-false a low e, ltb-false b low f))
 
-pub most-above : (a b high : ℕ) → ltb high (max a b) ≡ (ltb high a || ltb high b)
+pub most-above : (a b high : ℕ) → ltb high (max b a) ≡ (ltb high a || ltb high b)
 most-above a b high = by (ltb high a) (ltb high b) refl refl
   where
-    by : (x y : Bool) → ltb high a ≡ x → ltb high b ≡ y → ltb high (max a b) ≡ (x || y)
-    by true y e f = lt-ltb high (max a b) (omega (arith, ltb-true high a e))
-    by false true e f = lt-ltb high (max a b) (omega (arith, ltb-true high b f))
-    by false false e f = le-ltb high (max a b) (omega (arith, ltb-false high a e, ltb-false high b f))
+    by : (x y : Bool) → ltb high a ≡ x → ltb high b ≡ y → ltb high (max b a) ≡ (x || y)
+    by true y e f = lt-ltb high (max b a) (omega (arith, ltb-true high a e))
+    by false true e f = lt-ltb high (max b a) (omega (arith, ltb-true high b f))
+    by false false e f = le-ltb high (max b a) (omega (arith, ltb-false high a e, ltb-false high b f))
 
 -- ---- an alarm after a voltage, from whether it was ever so
 

@@ -137,7 +137,7 @@ module _ (c : Card) (full : Bool) (was : Alarms) where
       let d = was .surge || ltb (l .high) most in
       let b-more : (b || low) ≡ (was .sag || ltb (min (q .sum) least) (l .low)) =
       sym (or-more (was .sag) (ltb least (l .low)) low) ∙ ap (λ (e : Bool). was .sag || e) (sym (least-below least (q .sum) (l .low))) in
-      let d-more : (d || high) ≡ (was .surge || ltb (l .high) (max most (q .sum))) =
+      let d-more : (d || high) ≡ (was .surge || ltb (l .high) (max (q .sum) most)) =
       sym (or-more (was .surge) (ltb (l .high) most) high) ∙ ap (λ (e : Bool). was .surge || e) (sym (most-above most (q .sum) (l .high))) in (
         ap₂ (λ (sag : Bool) (surge : Bool). record { sag = sag; surge = surge })
             (ap (shown (k .sag) (old .sag)) s ∙ shown-ever (k .sag) (old .sag) b low (f .0) ∙ ap (λ (e : Bool). (k .sag && e) || low) b-more)

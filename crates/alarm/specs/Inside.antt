@@ -28,7 +28,7 @@ swing s volts = record { sweep = s; volts = volts }
 -- a voltage has taken the place of the oldest, of w
 unfoldable pub movedBy : ℕ → Sweep → ℤ → ℤ → Sweep
 movedBy w t newest oldest =
-    let sum = slidSum (t .sum) newest oldest in record { at = nextPlace w (t .at); sum = sum; least = min sum (t .least); most = max (t .most) sum }
+    let sum = slidSum (t .sum) newest oldest in record { at = nextPlace w (t .at); sum = sum; least = min sum (t .least); most = max sum (t .most) }
 
 unfoldable pub swept : Track → Swing → ℤ → Swing
 swept p q raw =

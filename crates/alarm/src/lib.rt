@@ -210,7 +210,7 @@ fn moved(t: Sweep, w: usize, new: i32, old: i32) -> Sweep
         at: if next == w { 0 } else { next },
         sum,
         least: if sum < t.least { sum } else { t.least },
-        most: if t.most < sum { sum } else { t.most },
+        most: if sum < t.most { t.most } else { sum },
     }
 }
 

@@ -64,7 +64,7 @@ returns c =
     let j = c .before in
     let q = j .before .before in
     let a = q .before .before .args in
-    let m : max (a .t .most) (sum-of q) ≡ sum-of q = omega (arith, c .if3 .taken) in
+    let m : max (sum-of q) (a .t .most) ≡ a .t .most = omega (arith, c .if3 .taken) in
     rw (placed (j .before), least-is j, ← summed q) (rw m)
 
 returns-2 : tie.Need-returns-2
@@ -73,7 +73,7 @@ returns-2 c =
     let j = c .before in
     let q = j .before .before in
     let a = q .before .before .args in
-    let m : max (a .t .most) (sum-of q) ≡ a .t .most = omega (arith, c .if3 .left) in
+    let m : max (sum-of q) (a .t .most) ≡ sum-of q = omega (arith, c .if3 .left) in
     rw (placed (j .before), least-is j, ← summed q) (rw m)
 
 pub moved-spec : {M : Type 1} → statement M
