@@ -84,14 +84,14 @@ static size_t take_part(struct module *module, const int32_t *voltage, const int
 {
     size_t wanted = (size_t)(module->samples - module->interval.samples);
     size_t count = left < wanted ? left : wanted;
+    int64_t *square = alarms_room(&module->alarms, count);
 
     take_waiting_card(module);
     if (!module->has_previous) {
         module->previous = current[0];
         module->has_previous = true;
     }
-    accumulate(&module->interval, &module->card, module->previous, voltage, current, count,
-               alarms_room(&module->alarms, count));
+    accumulate(&module->interval, &module->card, module->previous, voltage, current, count, square);
     alarms_follow(&module->alarms, count);
     module->previous = current[count - 1];
     if (module->interval.samples == module->samples)

@@ -1,7 +1,5 @@
 /* script-alarm-lines.c: starts with the settings of sag and surge, resets, and lines that are nearly one of these. */
-#include <inttypes.h>
 #include <stdio.h>
-#include <string.h>
 
 #include "numbers.h"
 #include "random.h"
@@ -32,14 +30,15 @@ static int64_t bad_half_cycle(int64_t good)
 {
     int64_t far = PICK(16, 32, 48, 62);
 
-    return PICK(0, 513, -1, 0, 513, -good, good + (INT64_C(1) << far), 1024, INT64_MAX, INT64_MIN + good);
+    return PICK(0, 0, 0, 513, 513, 513, -1, -good, good + (INT64_C(1) << far), 1024, INT64_MAX, INT64_MIN + good);
 }
 
 static int64_t bad_level(int64_t good)
 {
     int64_t far = PICK(24, 32, 48, 62);
 
-    return PICK(HIGHEST + 1, -1, HIGHEST + 1, -1, good + (INT64_C(1) << far), LOWEST, INT64_MAX, INT64_MIN + good);
+    return PICK(HIGHEST + 1, HIGHEST + 1, HIGHEST + 1, HIGHEST + 1, -1, -1, -1, good + (INT64_C(1) << far), LOWEST,
+                INT64_MAX, INT64_MIN + good);
 }
 
 /* One of the first eight settings. */
@@ -124,72 +123,72 @@ void put_refused_reset(void)
 }
 
 /* Lines about alarms that are no step, and a few that are one hardly. */
+static const char *const line[] = {
+    "reset",
+    "reset ",
+    "reset  512",
+    "reset 512 ",
+    "reset 512 512",
+    "reset SAG",
+    "reset SURGE",
+    "reset sag",
+    "reset x",
+    "reset -",
+    "reset +512",
+    "reset 0X200",
+    "reset 0x",
+    "reset 0x2 00",
+    "reset\t512",
+    "reset512",
+    "Reset 512",
+    "RESET 512",
+    "resets 512",
+    "rese 512",
+    " reset 512",
+    "reset 512\r",
+    "reset \r",
+    "reset 9223372036854775808",
+    "reset 18446744073709552128",
+    "reset 0x8000000000000200",
+    "reset | 512",
+    "reset 0 PFA",
+    "start 2 2 0 0 0 0 0",
+    "start 2 2 0 0 0 0 0 0 ",
+    "start 2 2 0 0 0 0 0 0  2",
+    "start 2 2 0 0 0 0 0 0 2 ",
+    "start 2 2 0 0 0 0 0 0 2  3",
+    "start 2 2 0 0 0 0 0 0 2 3 ",
+    "start 2 2 0 0 0 0 0 0 2 3 4 ",
+    "start 2 2 0 0 0 0 0 0 2 3 4 512 ",
+    "start 2 2 0 0 0 0 0 0 2 3 4 512 0",
+    "start 2 2 0 0 0 0 0 0 2 3 4 512 x",
+    "start 2 2 0 0 0 0 0 0 0 -1 -1 1 0",
+    "start 2 2 0 0 0 0 0 0 2 3 4 512 0 0",
+    "start 2 2 0 0 0 0 0 0 x",
+    "start 2 2 0 0 0 0 0 0 2 x",
+    "start 2 2 0 0 0 0 0 0 2 3 x",
+    "start 2 2 0 0 0 0 0 0 2 3 4 x",
+    "start 2 2 0 0 0 0 0 0 2 3 x 512 0",
+    "start 2 2 0 0 0 0 0 0 513 x",
+    "start 0 2 0 0 0 0 0 0 2 3 4 SURGE",
+    "start 2 2 0 0 0 0 0 0 VA_RMS",
+    "start 2 2 0 0 0 0 0 0 2 PHASE",
+    "start 2 2 0 0 0 0 0 0 2 3 4 0x8000000000000000",
+    "start 2 2 0 0 0 0 0 0 9223372036854775808",
+    "start 2 2 0 0 0 0 0 0 2 -9223372036854775809",
+    "start 2 2 0 0 0 0 0 0 2 3 4 -",
+    "start 2 2 0 0 0 0 0 0\t2",
+    "start 2 2 0 0 0 0 0 0 2,3",
+    "start 2 2 0 0 0 0 0 0 | 2",
+    "start 2 2 0 0 0 0 0 x 2 3 4 512",
+    "start 2 2 0 0 0 0 2 3 4 512",
+    "hold 0 SAG",
+    "read 0 SAG",
+    "read 0 SURGE",
+};
+
 void put_odd_watch(void)
 {
-    static const char *const line[] = {
-        "reset",
-        "reset ",
-        "reset  512",
-        "reset 512 ",
-        "reset 512 512",
-        "reset SAG",
-        "reset SURGE",
-        "reset sag",
-        "reset x",
-        "reset -",
-        "reset +512",
-        "reset 0X200",
-        "reset 0x",
-        "reset 0x2 00",
-        "reset\t512",
-        "reset512",
-        "Reset 512",
-        "RESET 512",
-        "resets 512",
-        "rese 512",
-        " reset 512",
-        "reset 512\r",
-        "reset \r",
-        "reset 9223372036854775808",
-        "reset 18446744073709552128",
-        "reset 0x8000000000000200",
-        "reset | 512",
-        "reset 0 PFA",
-        "start 2 2 0 0 0 0 0",
-        "start 2 2 0 0 0 0 0 0 ",
-        "start 2 2 0 0 0 0 0 0  2",
-        "start 2 2 0 0 0 0 0 0 2 ",
-        "start 2 2 0 0 0 0 0 0 2  3",
-        "start 2 2 0 0 0 0 0 0 2 3 ",
-        "start 2 2 0 0 0 0 0 0 2 3 4 ",
-        "start 2 2 0 0 0 0 0 0 2 3 4 512 ",
-        "start 2 2 0 0 0 0 0 0 2 3 4 512 0",
-        "start 2 2 0 0 0 0 0 0 2 3 4 512 x",
-        "start 2 2 0 0 0 0 0 0 0 -1 -1 1 0",
-        "start 2 2 0 0 0 0 0 0 2 3 4 512 0 0",
-        "start 2 2 0 0 0 0 0 0 x",
-        "start 2 2 0 0 0 0 0 0 2 x",
-        "start 2 2 0 0 0 0 0 0 2 3 x",
-        "start 2 2 0 0 0 0 0 0 2 3 4 x",
-        "start 2 2 0 0 0 0 0 0 2 3 x 512 0",
-        "start 2 2 0 0 0 0 0 0 513 x",
-        "start 0 2 0 0 0 0 0 0 2 3 4 SURGE",
-        "start 2 2 0 0 0 0 0 0 VA_RMS",
-        "start 2 2 0 0 0 0 0 0 2 PHASE",
-        "start 2 2 0 0 0 0 0 0 2 3 4 0x8000000000000000",
-        "start 2 2 0 0 0 0 0 0 9223372036854775808",
-        "start 2 2 0 0 0 0 0 0 2 -9223372036854775809",
-        "start 2 2 0 0 0 0 0 0 2 3 4 -",
-        "start 2 2 0 0 0 0 0 0\t2",
-        "start 2 2 0 0 0 0 0 0 2,3",
-        "start 2 2 0 0 0 0 0 0 | 2",
-        "start 2 2 0 0 0 0 0 x 2 3 4 512",
-        "start 2 2 0 0 0 0 2 3 4 512",
-        "hold 0 SAG",
-        "read 0 SAG",
-        "read 0 SURGE",
-    };
-
     fputs(line[draw(sizeof line / sizeof line[0])], stdout);
     put_end();
 }

@@ -110,7 +110,7 @@ static int64_t exact_size(const struct run *run)
         return chance(60) ? run->level : (int64_t)draw((uint64_t)run->level + 1);
     for (int64_t k = 0; k < run->left && k < w; k++)
         kept -= run->square[(run->seen + k) % w];
-    return kept >= run->target ? 0 : at_most(root_down(run->target - kept), HIGHEST);
+    return kept >= run->target ? 0 : at_most(root_down(run->target - kept), -LOWEST);
 }
 
 static int64_t next_size(const struct run *run)
@@ -135,6 +135,12 @@ static int64_t next_size(const struct run *run)
     }
 }
 
+/* The lowest value has a size that none above 0 has. */
+static int64_t with_sign(int64_t size)
+{
+    return chance(size > HIGHEST ? 80 : 40) ? -size : size;
+}
+
 static int64_t next_voltage(struct run *run)
 {
     int64_t size, raw;
@@ -147,7 +153,7 @@ static int64_t next_voltage(struct run *run)
         take_aim(run);
     size = next_size(run);
     size = size < 0 ? 0 : size;
-    raw = run->aim == FAR ? PICK(HIGHEST, HIGHEST, LOWEST) : raw_for(&run->force, chance(40) ? -size : size);
+    raw = run->aim == FAR ? PICK(HIGHEST, HIGHEST, LOWEST) : raw_for(&run->force, with_sign(size));
     run->left--;
     believe(run, corrected(&run->force, raw));
     return raw;
@@ -199,17 +205,41 @@ static void put_hold(int port)
     put_end();
 }
 
+/* Around one size, which small windows and large ones can meet; the levels may be equal, or the sag's the higher. */
+static struct watch any_watch(int64_t half_cycle)
+{
+    int64_t few = between(2, 12), more = between(13, 5000), large = between(5001, HIGHEST - 5);
+    int64_t size = PICK(few, few, few, more, more, large, HIGHEST, HIGHEST, HIGHEST - 1, 1);
+    int64_t sag = PICK(0, 1, size, size, size, size, size, size - 1, HIGHEST);
+    int64_t surge = PICK(0, 0, 1, size, size, size, size + 1, size + size / 4, size * 2, size - 1, HIGHEST);
+    int64_t kept = chance(15) ? between(0, 3) : 4; /* the others are at their lowest */
+    int64_t sticky = good_mask();
+
+    return (struct watch){kept < 1 ? 1 : half_cycle, kept < 2 ? 0 : at_most(sag, HIGHEST),
+                          kept < 3 ? 0 : at_most(surge, HIGHEST), kept < 4 ? 0 : sticky};
+}
+
+/* With settings of its own: none of them may reach the module. */
+static void put_refused_start(void)
+{
+    int64_t n = PICK(1, 2, 3, 40, 4096), half_cycle = PICK(1, 2, 3, 40, 512);
+    struct watch watch = any_watch(half_cycle);
+
+    put_refused_watch_start(n, &watch);
+}
+
 /* Whatever is refused or empty leaves the window and both alarms as they are. */
-static void put_nothing(const struct run *run)
+static void put_nothing(void)
 {
     static const char *const nothing[] = {
-        "block 8388608 | 0", "block 0 | -8388609", "block 0 |", "block |", "block |", "hold 2", "reset 0", "cards"};
+        "block 8388608 | 0", "block 0 | -8388609", "block 0 |", "block |", "block |", "hold 2",
+        "read 0 VA_RMS",     "read 1 VA_RMS",      "cards"};
     uint64_t what = draw(10);
 
     if (what < 3) {
         put_refused_reset();
     } else if (what < 5) {
-        put_refused_watch_start(run->n, &run->watch);
+        put_refused_start();
     } else if (what < 6) {
         put_odd_watch();
     } else {
@@ -230,21 +260,17 @@ static void put_holds(const struct run *run)
     if (chance(30)) {
         put_reset(good_mask());
         if (chance(40))
-            put_nothing(run);
+            put_nothing();
         put_hold(chance(50) ? port : 1 - port);
     }
     if (chance(25)) {
-        put_nothing(run);
+        put_nothing();
         put_hold(1 - port);
     }
 }
 
-static void put_run(struct run *run, int64_t blocks)
+static void put_blocks(struct run *run, int64_t blocks)
 {
-    put_watch_start(run->n, &run->watch);
-    if (chance(20))
-        put_reset(good_mask());
-    send_card(run);
     for (; blocks > 0; blocks--) {
         int64_t count = any_count(run);
 
@@ -258,18 +284,15 @@ static void put_run(struct run *run, int64_t blocks)
     }
 }
 
-/* Around one size, which small windows and large ones can meet; the levels may be equal, or the sag's the higher. */
-static struct watch any_watch(int64_t half_cycle)
+static void put_run(struct run *run, int64_t blocks)
 {
-    int64_t few = between(2, 12), more = between(13, 5000), large = between(5001, HIGHEST - 5);
-    int64_t size = PICK(few, few, few, more, more, large, HIGHEST, HIGHEST, HIGHEST - 1, 1);
-    int64_t sag = PICK(0, 1, size, size, size, size, size, size - 1, HIGHEST);
-    int64_t surge = PICK(0, 1, size, size, size, size + 1, size + size / 4, size * 2, size - 1, HIGHEST);
-    int64_t kept = chance(15) ? between(0, 3) : 4; /* the others are at their lowest */
-    int64_t sticky = good_mask();
-
-    return (struct watch){kept < 1 ? 1 : half_cycle, kept < 2 ? 0 : at_most(sag, HIGHEST),
-                          kept < 3 ? 0 : at_most(surge, HIGHEST), kept < 4 ? 0 : sticky};
+    put_watch_start(run->n, &run->watch);
+    if (chance(20))
+        put_reset(good_mask());
+    send_card(run);
+    if (chance(60))
+        put_refused_start();
+    put_blocks(run, blocks);
 }
 
 /* A window of some hundred samples; intervals of one sample and of thousands. */
@@ -281,7 +304,7 @@ static void put_wide_run(void)
     put_run(&run, between(5, 8));
     if (n == LONGEST) {
         put_samples(&run, LONGEST);
-        put_holds(&run);
+        put_blocks(&run, 3);
     }
 }
 
@@ -307,7 +330,7 @@ void put_alarms(void)
         struct run run = {.n = n, .watch = any_watch(w)};
 
         put_run(&run, between(10, 16));
-        if (chance(20))
+        if (chance(40))
             put_odd_watch();
     }
     if (chance(40))
