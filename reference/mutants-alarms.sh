@@ -71,7 +71,7 @@ mutant 'alarms: levels in 32 bits' alarms.c 's|= w \* sag \* sag;|= (uint32_t)(w
 mutant 'alarms: surge by the mean, rounded down' alarms.c 's|: w \* surge \* surge;|: w * surge * surge + w - 1;|'
 mutant 'alarms: surge by the root, rounded down' alarms.c 's|: w \* surge \* surge;|: w * (surge + 1) * (surge + 1) - 1;|'
 mutant 'alarms: sag by the root, rounded up' alarms.c 's|= w \* sag \* sag;|= sag == 0 ? 0 : w * (sag - 1) * (sag - 1) + 1;|'
-mutant 'alarms: levels as doubles of 53 bits, the sum rounded to eights' alarms.c 's|int64_t change = newest|int64_t change = (newest|; s|oldest\[k\];|oldest[k]) / 8 * 8;|'
+mutant 'alarms: the sum kept in eights' alarms.c 's|int64_t change = newest|int64_t change = (newest|; s|oldest\[k\];|oldest[k]) / 8 * 8;|'
 
 # What is set and stays
 mutant 'alarms: none is sticky' alarms.c 's|alarms->sticky = settings->sticky;|alarms->sticky = 0;|'

@@ -40,7 +40,7 @@ struct run {
 static struct side any_side(void)
 {
     int64_t any = between(ONE / 4, 2 * ONE);
-    int64_t gain = PICK(ONE, ONE, ONE, ONE / 2, ONE * 2, ONE / 4 * 3, ONE + 1, ONE - 1, any);
+    int64_t gain = PICK(ONE, ONE, ONE, ONE, ONE, ONE / 2, ONE * 2, ONE / 4 * 3, ONE + 1, ONE - 1, any);
     int64_t offset = PICK(0, 0, 0, 1, -1, 7, -1000, 100000, between(-3000000, 3000000));
 
     return (struct side){offset, gain};
@@ -192,7 +192,8 @@ static void put_samples(struct run *run, int64_t count)
 static int64_t any_count(const struct run *run)
 {
     int64_t w = run->watch.half_cycle, left = run->n - run->taken, aimed = run->left > 0 ? run->left : w;
-    int64_t count = PICK(aimed, aimed, aimed, aimed - 1, aimed + 1, 1, 1, 2, left, left - 1, (aimed + 1) / 2);
+    int64_t count =
+        PICK(aimed, aimed, aimed, aimed, aimed, aimed - 1, aimed + 1, 1, 1, 2, left, left - 1, (aimed + 1) / 2);
 
     if (run->seen < w && chance(60))
         count = w - run->seen - PICK(0, 0, 1, 1, -1, (w - run->seen) / 2);
@@ -208,8 +209,9 @@ static void put_hold(int port)
 /* Around one size, which small windows and large ones can meet; the levels may be equal, or the sag's the higher. */
 static struct watch any_watch(int64_t half_cycle)
 {
-    int64_t few = between(2, 12), more = between(13, 5000), large = between(5001, HIGHEST - 5);
-    int64_t size = PICK(few, few, few, more, more, large, HIGHEST, HIGHEST, HIGHEST - 1, 1);
+    int64_t few = between(2, 12), more = between(13, 5000), large = between(HIGHEST / 8, HIGHEST / 4 * 3);
+    int64_t any = PICK(few, few, few, more, more, large, large, HIGHEST, HIGHEST, HIGHEST - 1, 1);
+    int64_t size = half_cycle == 4 && chance(50) ? -LOWEST / 2 : any; /* four of these are one of the lowest value */
     int64_t sag = PICK(0, 1, size, size, size, size, size, size - 1, HIGHEST);
     int64_t surge = PICK(0, 0, 1, size, size, size, size + 1, size + size / 4, size * 2, size - 1, HIGHEST);
     int64_t kept = chance(15) ? between(0, 3) : 4; /* the others are at their lowest */
@@ -295,17 +297,33 @@ static void put_run(struct run *run, int64_t blocks)
     put_blocks(run, blocks);
 }
 
-/* A window of some hundred samples; intervals of one sample and of thousands. */
+/* One window behind another, each as aimed at its end, in one block or two; then a few samples more. */
+static void put_windows(struct run *run, int64_t windows)
+{
+    for (; windows > 0; windows--) {
+        int64_t w = run->watch.half_cycle, first = chance(60) ? w : between(1, w);
+
+        take_aim(run);
+        run->left = w;
+        put_samples(run, first);
+        if (first < w)
+            put_samples(run, w - first);
+        put_holds(run);
+        put_samples(run, between(0, 2));
+        put_holds(run);
+    }
+}
+
+/* A window of some hundred samples; intervals of one sample and of thousands; in some runs more than 4,096 samples. */
 static void put_wide_run(void)
 {
-    int64_t w = PICK(511, 512, 512, 512, between(100, 510)), n = PICK(1, 1, 3, 100, 400, 512, 4096, LONGEST);
+    int64_t w = PICK(511, 512, 512, 512, between(100, 510)), n = PICK(1, 1, 1, 2, 3, 100, 400, 512, LONGEST);
     struct run run = {.n = n, .watch = any_watch(w)};
 
-    put_run(&run, between(5, 8));
-    if (n == LONGEST) {
+    put_run(&run, between(2, 4));
+    if (n == LONGEST || chance(20))
         put_samples(&run, LONGEST);
-        put_blocks(&run, 3);
-    }
+    put_windows(&run, between(2, 3));
 }
 
 /* A window of a few samples that a block fills again and again. */
@@ -325,7 +343,7 @@ static void put_wrapped_run(void)
 void put_alarms(void)
 {
     for (int64_t runs = between(2, 4); runs > 0; runs--) {
-        int64_t few = between(2, 6), w = PICK(1, 1, 2, 2, 3, few, few, 12, 13, 20, 40, 40);
+        int64_t few = between(2, 6), w = PICK(1, 1, 2, 2, 3, 4, few, few, 12, 13, 20, 40, 40);
         int64_t n = PICK(1, 1, 1, 2, 2, 3, 4, 5, 8, 40);
         struct run run = {.n = n, .watch = any_watch(w)};
 
