@@ -152,7 +152,7 @@ mutant 'reset: a mask cut to 24 bits' module.c "$reset s|alarm_mask_allowed\(mas
 mutant 'reset: a mask'"'"'s sign lost' module.c "$reset s|alarm_mask_allowed\(mask\)|alarm_mask_allowed(mask == INT64_MIN ? mask : mask < 0 ? -mask : mask)|"
 mutant 'reset: a mask of 0 refused' module.c "$reset s/if \(.*/if (mask == 0 || !alarm_mask_allowed(mask))/"
 mutant 'reset: a mask of both refused' module.c "$reset s/if \(.*/if (mask == (SAG | SURGE) || !alarm_mask_allowed(mask))/"
-mutant 'reset: a refused one clears the named alarms' module.c "$reset s|return 12;|{ $clears return 12; }|"
+mutant 'reset: a refused one clears the named alarms' module.c "$reset s|return 12;|{ module->alarms.set \&= ~mask; return 12; }|"
 mutant 'reset: refused with 7' module.c "$reset s|return 12;|return 7;|"
 mutant 'reset: refused before any start' module.c "$reset s/if \(.*/if (!alarm_mask_allowed(mask) || !module->some_closed)/"
 mutant 'reset: ends the running interval' module.c "s|$clears|& memset(\&module->interval, 0, sizeof module->interval);|"
