@@ -50,7 +50,7 @@ enum {
     STOCK_NOT_A_BOOK = 2,    /* the book is not well formed, or more bytes are said to be used than there are */
     STOCK_WITHDRAWN = 3,     /* the serial is withdrawn, whether or not it has a card */
     STOCK_NO_CARD = 4,       /* no card has that serial */
-    STOCK_OUT_OF_RANGE = 12, /* a value is outside its field's range */
+    STOCK_OUT_OF_RANGE = 12, /* a value is outside its range */
     STOCK_PRESENT = 19,      /* the serial is already in that section */
     STOCK_FULL = 20,         /* the section has 1024 cards, or 512 withdrawn serials */
     STOCK_NO_ROOM = 21       /* the buffer is too short for the longer book */

@@ -8,11 +8,12 @@ use native.Mathlib.Numerals.{add-one}
 use native.Mathlib.Omega.{arith}
 use lib.IntN.{ℤ, pos, negsuc}
 use lib.Signed.{leZ}
-use lib.ListN.{length, take, drop, getD, set, length-set, length-drop, drop-of-length-le}
-use lib.Seq.{take-suc-set, drop-drop, drop-cons, length-take-le}
+use lib.ListN.{length, take, drop, getD, set, take-append-drop, length-set, length-drop, drop-of-length-le}
+use lib.Seq.{take-suc-set, drop-set-lt, drop-drop, drop-cons, length-take-le, take-append-seam}
 use mir.Syntax.{w32}
 use mir.Val.{SFits}
 use borrow.Author.Tests.{leb-true}
+use Rattle.console.specs.declared.items.Row.{Row}
 use Rattle.console.specs.declared.items.Next.{Next}
 use Rattle.console.specs.declared.items.Next.the-variants as next
 use Rattle.console.specs.declared.numerals.Number.{Number}
@@ -79,16 +80,17 @@ pub full : (ks : List Kind) (count : ℕ) (t : List ℕ) → length ks ≤ count
 unfolding rowOf
 full ks count t h = rw (drop-of-length-le ks) refl
 
-module _ (ks : List Kind) (text : List ℕ) where
+module _ (ks : List Kind) (text : List ℕ) (was : List ℤ) where
   pub record Going (into : List ℤ) (count at : ℕ) : Type 0 where
     pub inside : at ≤ length text
     pub room : count ≤ length ks
     pub long : length ks ≤ length into
     pub values : take count into ++ rowOf (drop count ks) (drop at text) .values ≡ rowOf ks text .values
     pub bytes : at + rowOf (drop count ks) (drop at text) .bytes ≡ rowOf ks text .bytes
+    pub behind : drop count into ≡ drop count was
 
-  pub begun : (into : List ℤ) → length ks ≤ length into → Going into 0 0
-  begun into l = record { inside = omega arith; room = omega arith; long = l; values = refl; bytes = omega arith }
+  pub begun : length ks ≤ length was → Going was 0 0
+  begun l = record { inside = omega arith; room = omega arith; long = l; values = refl; bytes = omega arith; behind = refl }
 
   -- one more
   module _ (d : Kind) (into : List ℤ) (count at : ℕ) (g : Going into count at) (h : count < length ks) where
@@ -109,21 +111,26 @@ module _ (ks : List Kind) (text : List ℕ) where
             long = simp length-set (g .long);
             values = rw (add-one, take-suc-set) (rw (append-assoc, ← add-one) (ap (λ (r : Numbers). take count into ++ r .values) (sym turn) ∙ g .values));
             bytes = rw add-assoc (ap (λ (r : Numbers). at + r .bytes) (sym turn) ∙ g .bytes);
+            behind = drop-set-lt (count + 1) into count x (omega arith) ∙ sym (drop-drop 1 count into) ∙ ap (drop 1) (g .behind) ∙ drop-drop 1 count was;
           }
 
     pub another : nextOf (getD ks count d) (drop at text) ≡ next.Not → rowOf (drop count ks) (drop at text) ≡ none
     another e = rw (row-next, e) refl
 
   -- no more
-  pub ended : (into : List ℤ) (count at : ℕ) → Going into count at → rowOf (drop count ks) (drop at text) ≡ none → Filled (record { count = count; taken = at }) into (rowOf ks text)
+  pub ended : (into : List ℤ) (count at : ℕ) → Going into count at → rowOf (drop count ks) (drop at text) ≡ none → Filled (record { count = count; taken = at }) was into (rowOf ks text)
   ended into count at g e =
       let v : rowOf ks text .values ≡ take count into = sym (g .values) ∙ ap (λ (r : Numbers). take count into ++ r .values) e ∙ append-nil (take count into) in
       let l : length (take count into) ≡ count = length-take-le count into (omega (arith, g .long, g .room)) in
       record {
         count = sym (ap length v ∙ l);
         bytes = omega (arith, g .bytes, ap (λ (r : Numbers). r .bytes) e);
-        values = rw (v, l) refl;
+        values = rw (v, l) (sym (take-append-drop count into) ∙ ap (λ (b : List ℤ). take count into ++ b) (g .behind));
       }
+
+-- the numbers, taken out of the buffer
+pub taken-out : (r : Row) (was buffer : List ℤ) (row : Numbers) → Filled r was buffer row → take (r .count) buffer ≡ row .values
+taken-out r was buffer row f = rw (f .count, f .values) (take-append-seam (row .values) (drop (length (row .values)) was))
 
 -- ---- a row has no more items than it may, and takes no more bytes than there are
 pub row-count : (ks : List Kind) (t : List ℕ) → length (rowOf ks t .values) ≤ length ks

@@ -1,40 +1,44 @@
 -- A turn that says no keeps the module: step by step, and then line by line.
 use Prim.Native.Nat.{ℕ}
 use mathlib.Core.Path.{_≡_, refl, ap}
-use mathlib.Core.Bool.{Bool, true, false, cond, false≢true}
+use mathlib.Core.Bool.{Bool, true, false, cond, _&&_, false≢true}
 use mathlib.Core.List.{List, [], _∷_}
 use mathlib.Core.Option.{Option, none, some}
-use lib.Dec.{ltb}
+use lib.Dec.{eqb, ltb}
 use lib.IntN.{ℤ}
-use lib.ListN.{length, take, drop, getD}
+use lib.ListN.{length, take, drop}
 use Rattle.card.specs.declared.Card.{Card}
 use Rattle.address.specs.declared.ByteAddr.{ByteAddr}
 use Rattle.interval.specs.declared.Closed.{Closed}
 use Rattle.steps.specs.Answers.{OrRefusal, refused, accepted}
-use Rattle.steps.specs.Gauge.{Meter, feeds}
+use Rattle.steps.specs.Gauge.{Metering}
 use Rattle.steps.specs.Port.{Port}
 use Rattle.steps.specs.declared.Answer.{Answer}
 use Rattle.steps.specs.declared.Answer.the-variants as answer
-use Rattle.meter.specs.Core.{core, meterOf, samplesOf}
-use Rattle.meter.specs.Blocks.{nextCard, answered, blockOf as meterBlock}
+use Rattle.alarm.specs.declared.Watch.{Watch}
+use Rattle.alarm.specs.declared.Reset.{Reset}
+use Rattle.alarm.specs.Alarms.{both, clearing, answered as watchAnswered, resetOf as watchReset}
+use Rattle.meter.specs.declared.Taken.{Taken}
+use Rattle.meter.specs.Core.{core}
+use Rattle.meter.specs.Blocks.{blockDone, answered, voltsIn, voltsOf, blockOf as meterBlock}
 use Rattle.port.specs.declared.Held.{Held}
 use Rattle.port.specs.Holds.{copied}
 use Rattle.desk.specs.declared.Desk.{Desk}
 use Rattle.desk.specs.Desks.{opening, writing, finished, dropping}
 use Rattle.aberzhan.specs.declared.Module.{Module}
 use Rattle.aberzhan.specs.declared.Stepped.{Stepped}
-use Rattle.aberzhan.specs.Module.{deskOf, withMeter, portAt, atPort, refusal, atDesk, committing, notHeld, holding, openOf, writeOf, commitOf, dropOf, holdOf, readOf, blockOf}
+use Rattle.aberzhan.specs.Module.{deskOf, watchOf, withMeter, withWatch, portAt, atPort, refusal, atDesk, committing, notHeld, holding}
+use Rattle.aberzhan.specs.Module.{openOf, writeOf, commitOf, dropOf, holdOf, readOf, blockOf, resetOf}
 use Rattle.console.specs.declared.words.Word.{Word}
 use Rattle.console.specs.declared.words.Word.the-variants as word
 use Rattle.console.specs.declared.turns.Said.{Said}
 use Rattle.console.specs.declared.turns.Said.the-variants as said
 use Rattle.console.specs.declared.turns.Turn.{Turn}
-use Rattle.console.specs.declared.words.Kind.the-variants as kind
 use Rattle.console.specs.declared.unread.Why.the-variants as why
 use Rattle.console.specs.Texts.{beginsWith, lengthTo}
-use Rattle.console.specs.Words.{wordOf, itemsOf}
+use Rattle.console.specs.Words.{wordOf, itemsOf, enough}
 use Rattle.console.specs.Items.{rowOf, samples}
-use Rattle.console.specs.Unread.{stoppedAt, sideStopped}
+use Rattle.console.specs.Unread.{stoppedBefore, sideStopped}
 use Rattle.console.specs.Turns.{unreadTurn, saidOf, steppedTurn, heldTurn, begunBy, startedTurn, nth, itemsTurn, withItems, withText, currentsTurn, withSamples, wordTurn, turnOf}
 use Rattle.console.specs.Session.{lineTurn}
 use Rattle.console.specs.Unchanged.{ChangesNothing}
@@ -100,13 +104,29 @@ hold-kept m port = by (portAt port)
     by none e = refl
     by (some p) e = holds m p copy e
 
+-- a block's turn by what came of it at the meter
+abbrev taken : Module → Taken → List ℤ → Turn
+taken m r volts = steppedTurn (record { answer = r .answer; after = withMeter (r .after) (withWatch (both (r .watch) volts) m) })
+
 block-kept : (m : Module) (v i : List ℤ) → Keeps m (steppedTurn (blockOf m v i))
-unfolding blockOf meterBlock
-block-kept m v i = by (feeds core (samplesOf v i) (nextCard (m .meter)) (meterOf (m .meter)))
+unfolding blockOf meterBlock voltsOf
+block-kept m v i = by (blockDone (m .meter) (watchOf m) v i)
   where
-    by : (r : OrRefusal (Meter core × List Closed)) → Keeps m (steppedTurn (record { answer = answered (m .meter) r .answer; after = withMeter (answered (m .meter) r .after) m }))
+    by : (r : OrRefusal (Metering core × List Closed)) → Keeps m (taken m (answered (m .meter) (watchOf m) r) (voltsIn (watchOf m) r))
     by (refused n) e = refl
     by (accepted x) e = absurd (false≢true e)
+
+-- a reset's turn by what came of it at the watch
+abbrev cleared : Module → Reset → Turn
+cleared m r = steppedTurn (record { answer = r .answer; after = withWatch (both (r .after) (m .volts)) m })
+
+reset-kept : (m : Module) (mask : ℤ) → Keeps m (steppedTurn (resetOf m mask))
+unfolding resetOf watchReset
+reset-kept m mask = by (clearing (m .watch) mask)
+  where
+    by : (r : OrRefusal Watch) → Keeps m (cleared m (watchAnswered (m .watch) r))
+    by (refused n) e = refl
+    by (accepted a) e = absurd (false≢true e)
 
 start-kept : (m : Module) (s : Stepped) → Keeps m (startedTurn m s)
 unfolding startedTurn
@@ -128,6 +148,7 @@ items-kept m word.Commit x = commit-kept m _
 items-kept m word.Drop x = drop-kept m _
 items-kept m word.Hold x = hold-kept m _
 items-kept m word.Read x = λ e. read-kept m _ _
+items-kept m word.Reset x = reset-kept m _
 items-kept m word.Cards x = λ e. refl
 items-kept m word.Help x = λ e. refl
 items-kept m word.Open x = λ e. refl
@@ -139,11 +160,9 @@ unfolding withItems
 with-items-kept m w rest =
     let row = rowOf (itemsOf w) rest in
     let count = length (row .values) in
-    let stops = unreadTurn m (stoppedAt (getD (itemsOf w) count kind.Number) (drop (row .bytes) rest)) in
-    let steps = itemsTurn m w (row .values) in
-    let more = ltb (row .bytes) (length rest) in
-    either m (ltb count (length (itemsOf w))) stops (cond more (unreadTurn m why.More) steps) (λ e. refl)
-    (either m more (unreadTurn m why.More) steps (λ e. refl) (items-kept m w (row .values)))
+    let behind = drop (row .bytes) rest in
+    let stops = unreadTurn m (stoppedBefore (drop count (itemsOf w)) behind) in
+    either m (eqb (length behind) 0 && enough w count) (itemsTurn m w (row .values)) stops (items-kept m w (row .values)) (λ e. refl)
 
 text-kept : (m : Module) (rest : List ℕ) → Keeps m (withText m rest)
 unfolding withText
@@ -152,7 +171,7 @@ text-kept m rest =
     let behind = drop (row .bytes) rest in
     let steps = steppedTurn (openOf m (nth (row .values) 0) (drop 1 behind)) in
     let spaced = beginsWith (32 ∷ []) behind in
-    either m (ltb (length (row .values)) 1) (unreadTurn m (stoppedAt kind.Number behind)) (cond spaced steps (unreadTurn m why.Missing)) (λ e. refl)
+    either m (ltb (length (row .values)) 1) (unreadTurn m (stoppedBefore (itemsOf word.Open) behind)) (cond spaced steps (unreadTurn m why.Missing)) (λ e. refl)
     (either m spaced steps (unreadTurn m why.Missing) (open-kept m (nth (row .values) 0) (drop 1 behind)) (λ e. refl))
 
 currents-kept : (b : ℕ) (m : Module) (v : List ℤ) (text : List ℕ) → Keeps m (currentsTurn b m v text)
@@ -180,6 +199,7 @@ word-kept a b m word.Commit rest = with-items-kept m word.Commit rest
 word-kept a b m word.Drop rest = with-items-kept m word.Drop rest
 word-kept a b m word.Hold rest = with-items-kept m word.Hold rest
 word-kept a b m word.Read rest = with-items-kept m word.Read rest
+word-kept a b m word.Reset rest = with-items-kept m word.Reset rest
 word-kept a b m word.Cards rest = with-items-kept m word.Cards rest
 word-kept a b m word.Help rest = with-items-kept m word.Help rest
 

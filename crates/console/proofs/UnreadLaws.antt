@@ -1,23 +1,30 @@
 -- Laws of why a line is not read.
-use Prim.Native.Nat.{ℕ}
+use Prim.Native.Nat.{ℕ, _≤_, _<_}
 use mathlib.Core.Path.{_≡_, refl}
 use mathlib.Core.List.{List, [], _∷_}
 use native.Mathlib.Omega.{arith}
-use lib.ListN.{length}
+use lib.ListN.{length, drop, getD, drop-of-length-le}
+use lib.Seq.{drop-cons}
 use borrow.Author.Tests.{eq-eqb, ne-eqb}
 use Rattle.console.specs.declared.words.Kind.{Kind}
-use Rattle.console.specs.declared.unread.Why.the-variants.{Missing, NoBar, TooMany, NotSample}
-use Rattle.console.specs.Unread.{notA, stoppedAt, sideStopped}
+use Rattle.console.specs.declared.unread.Why.the-variants.{Missing, More, NoBar, TooMany, NotSample}
+use Rattle.console.specs.Unread.{notA, stoppedBefore, sideStopped}
 
-pub stopped-missing : (k : Kind) (behind : List ℕ) → length behind ≡ 0 → Missing ≡ stoppedAt k behind
-unfolding stoppedAt
-stopped-missing k [] e = refl
-stopped-missing k (c ∷ cs) e = absurd (omega arith)
+module _ (ks : List Kind) where
+  pub stopped-missing : (behind : List ℕ) → length behind ≡ 0 → Missing ≡ stoppedBefore ks behind
+  unfolding stoppedBefore
+  stopped-missing [] e = refl
+  stopped-missing (c ∷ cs) e = absurd (omega arith)
 
-pub stopped-other : (k : Kind) (behind : List ℕ) → (length behind ≡ 0 → ⊥) → notA k ≡ stoppedAt k behind
-unfolding stoppedAt
-stopped-other k [] h = absurd (h refl)
-stopped-other k (c ∷ cs) h = refl
+  pub stopped-other : (count : ℕ) (d : Kind) (behind : List ℕ) → (length behind ≡ 0 → ⊥) → count < length ks → notA (getD ks count d) ≡ stoppedBefore (drop count ks) behind
+  unfolding stoppedBefore
+  stopped-other count d [] h l = absurd (h refl)
+  stopped-other count d (c ∷ cs) h l = rw (drop-cons ks count d) refl
+
+  pub stopped-more : (count : ℕ) (behind : List ℕ) → (length behind ≡ 0 → ⊥) → length ks ≤ count → More ≡ stoppedBefore (drop count ks) behind
+  unfolding stoppedBefore
+  stopped-more count [] h l = absurd (h refl)
+  stopped-more count (c ∷ cs) h l = rw (drop-of-length-le ks) refl
 
 module _ (room count : ℕ) where
   pub side-missing : (behind : List ℕ) → length behind ≡ 0 → NoBar ≡ sideStopped room count behind

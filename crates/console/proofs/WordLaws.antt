@@ -1,13 +1,15 @@
 -- The search for a line's word, word by word; and the items that a step has.
 use Prim.Native.Nat.{ℕ, zero, suc, _≤_, _<_}
 use mathlib.Core.Path.{_≡_, refl}
-use mathlib.Core.Bool.{true, false}
+use mathlib.Core.Bool.{true, false, cond, _&&_}
 use mathlib.Core.List.{List, _∷_}
 use native.Mathlib.Omega.{arith}
+use lib.Dec.{leb, ltb}
 use lib.ListN.{length, getD}
+use borrow.Author.Tests.{le-leb, le-ltb}
 use Rattle.serial.specs.Texts.{sameText}
 use Rattle.console.specs.declared.words.Word.{Word}
-use Rattle.console.specs.declared.words.Word.the-variants.{Start, Open, Write, Commit, Drop, Hold, Read, Block, Cards, Help, Other}
+use Rattle.console.specs.declared.words.Word.the-variants.{Start, Open, Write, Commit, Drop, Hold, Read, Block, Reset, Cards, Help, Other}
 use Rattle.console.specs.declared.words.Kind.the-variants as kind
 use Rattle.console.specs.Words.{lettersOf, firstOf, itemsOf}
 
@@ -18,24 +20,22 @@ module _ (w : Word) (ws : List Word) (item : List ℕ) where
   pub passed : sameText (lettersOf w) item ≡ false → firstOf (w ∷ ws) item ≡ firstOf ws item
   passed h = rw h refl
 
--- the slots of a start
-pub slot-at : (k : ℕ) → 2 ≤ k → k < 8 → getD (itemsOf Start) k kind.Number ≡ kind.Slot
+-- the slots of a start stand between numbers
+pub start-kind : (k : ℕ) → getD (itemsOf Start) k kind.Number ≡ cond (leb 2 k && ltb k 8) kind.Slot kind.Number
 unfolding itemsOf
-slot-at zero l h = absurd (omega arith)
-slot-at (suc zero) l h = absurd (omega arith)
-slot-at (suc (suc zero)) l h = refl
-slot-at (suc (suc (suc zero))) l h = refl
-slot-at (suc (suc (suc (suc zero)))) l h = refl
-slot-at (suc (suc (suc (suc (suc zero))))) l h = refl
-slot-at (suc (suc (suc (suc (suc (suc zero)))))) l h = refl
-slot-at (suc (suc (suc (suc (suc (suc (suc zero))))))) l h = refl
-slot-at (suc (suc (suc (suc (suc (suc (suc (suc k)))))))) l h = absurd (omega arith)
-
-pub start-number : (k : ℕ) → k < 2 → getD (itemsOf Start) k kind.Number ≡ kind.Number
-unfolding itemsOf
-start-number zero h = refl
-start-number (suc zero) h = refl
-start-number (suc (suc k)) h = absurd (omega arith)
+start-kind zero = refl
+start-kind (suc zero) = refl
+start-kind (suc (suc zero)) = refl
+start-kind (suc (suc (suc zero))) = refl
+start-kind (suc (suc (suc (suc zero)))) = refl
+start-kind (suc (suc (suc (suc (suc zero))))) = refl
+start-kind (suc (suc (suc (suc (suc (suc zero)))))) = refl
+start-kind (suc (suc (suc (suc (suc (suc (suc zero))))))) = refl
+start-kind (suc (suc (suc (suc (suc (suc (suc (suc zero)))))))) = refl
+start-kind (suc (suc (suc (suc (suc (suc (suc (suc (suc zero))))))))) = refl
+start-kind (suc (suc (suc (suc (suc (suc (suc (suc (suc (suc zero)))))))))) = refl
+start-kind (suc (suc (suc (suc (suc (suc (suc (suc (suc (suc (suc zero))))))))))) = refl
+start-kind (suc (suc (suc (suc (suc (suc (suc (suc (suc (suc (suc (suc k)))))))))))) = rw (le-leb 2 (suc (suc (suc (suc (suc (suc (suc (suc (suc (suc (suc (suc k)))))))))))) (omega arith), le-ltb (suc (suc (suc (suc (suc (suc (suc (suc (suc (suc (suc (suc k)))))))))))) 8 (omega arith)) refl
 
 pub write-number : (k : ℕ) → k < 3 → (k ≡ 1 → ⊥) → getD (itemsOf Write) k kind.Number ≡ kind.Number
 unfolding itemsOf
@@ -65,6 +65,8 @@ one-number Drop (suc k) h = refl
 one-number Hold zero h = refl
 one-number Hold (suc k) h = refl
 one-number Block k h = refl
+one-number Reset zero h = refl
+one-number Reset (suc k) h = refl
 one-number Cards k h = refl
 one-number Help k h = refl
 one-number Other k h = refl

@@ -1,7 +1,7 @@
 -- The lines that answer a turn, from reference/CONSOLE.md, "Answers". One space parts two items; a line feed, 10, ends a line.
 use Prim.Native.Nat.{ℕ}
 use Prim.Native.String.{String}
-use mathlib.Core.Bool.{cond}
+use mathlib.Core.Bool.{Bool, cond}
 use mathlib.Core.List.{List, [], _∷_, _++_}
 use lib.Dec.{leb, eqb}
 use lib.IntN.{ℤ}
@@ -9,6 +9,7 @@ use lib.ListN.{take}
 use Rattle.serial.specs.Ascii.{ascii}
 use Rattle.serial.specs.declared.Serial.{Serial}
 use Rattle.sample.specs.declared.Clips.{Clips}
+use Rattle.alarm.specs.declared.Alarms.{Alarms}
 use Rattle.decimal.specs.Decimals.{decimal, signedDecimal}
 use Rattle.refusal.specs.Words.{wordsOf}
 use Rattle.console.specs.declared.unread.Why.{Why}
@@ -49,9 +50,17 @@ valueLine v = ascii "ok " ++ signedDecimal v ++ end
 unfoldable pub clipsText : Clips → List ℕ
 clipsText clips = ascii " " ++ decimal (clips .v) ++ ascii " " ++ decimal (clips .i)
 
--- ok NUMBER SERIAL CLIPPED_V CLIPPED_I
-unfoldable pub heldLine : ℕ → Serial → Clips → List ℕ
-heldLine number serial clips = ascii "ok " ++ decimal number ++ ascii " " ++ digitsText serial ++ clipsText clips ++ end
+-- an alarm's word where it is set, else `-`
+abbrev pub alarmText : List ℕ → Bool → List ℕ
+alarmText word set = cond set word (ascii "-")
+
+-- both alarms, a space before each
+unfoldable pub alarmsText : Alarms → List ℕ
+alarmsText alarms = ascii " " ++ alarmText (ascii "SAG") (alarms .sag) ++ ascii " " ++ alarmText (ascii "SURGE") (alarms .surge)
+
+-- ok NUMBER SERIAL CLIPPED_V CLIPPED_I SAG SURGE
+unfoldable pub heldLine : ℕ → Serial → Clips → Alarms → List ℕ
+heldLine number serial clips alarms = ascii "ok " ++ decimal number ++ ascii " " ++ digitsText serial ++ clipsText clips ++ alarmsText alarms ++ end
 
 -- ok FORCE WAITING
 unfoldable pub cardsLine : Serial → Serial → List ℕ
@@ -60,13 +69,15 @@ cardsLine force waiting = ascii "ok " ++ cardText force ++ ascii " " ++ cardText
 -- the steps with their items
 unfoldable pub helpLines : List String
 helpLines =
-    "# start N B SLOT SLOT SLOT SLOT SLOT SLOT: N samples an interval, energy buckets of B, six registers to track or 0"
+    "# start N B SLOT SLOT SLOT SLOT SLOT SLOT [W [VSAG [VSURGE [STICKY]]]]: N samples an interval, energy buckets of B, six registers to track or 0"
+    ∷ "#   W samples in half a cycle, sag and surge levels or 0 (off), and the alarms that stay set: a mask as of reset; left out: 1 0 0 0"
     ∷ "# open PORT SERIAL: begins a card; ports are 0 and 1"
     ∷ "# write PORT FIELD VALUE: VOFFS IOFFS VGAIN IGAIN PHASE IRMSOFFS SQUELCH POFFS, or 1 to 8"
     ∷ "# commit PORT: the card is whole and waits for the next interval"
     ∷ "# drop PORT: the card is forgotten"
     ∷ "# block VOLTAGES | CURRENTS: samples, at most 4,096 a side"
-    ∷ "# hold PORT: keeps the last closed interval; answers its number, its card's serial, and how many of its voltages and currents were clipped"
+    ∷ "# reset MASK: clears alarms: 0x200000 sag, 0x200 surge, 0x200200 both"
+    ∷ "# hold PORT: keeps the last closed interval; answers its number, its card's serial, how many of its voltages and currents were clipped, and both alarms as they are now"
     ∷ "# read PORT REGISTER: of what is held; a name (VA_RMS, WATT_A, PA_POS_CNT, MIN1 ..) or a byte address"
     ∷ "# cards: the serials of the card in force and of the one that waits"
     ∷ "# help: these lines"
@@ -81,16 +92,16 @@ linesOf (s ∷ ss) = ascii s ++ end ++ linesOf ss
 unfoldable pub helpText : List ℕ
 helpText = linesOf helpLines
 
--- what is said, with a number, serials and counts where a hold or `cards` says them
-unfoldable pub saidText : Said → ℕ → Serial → Clips → Serial → List ℕ
-saidText (said.Unread why) number serial clips waiting = unreadLine why
-saidText (said.Refused n) number serial clips waiting = refusedLine n
-saidText said.Done number serial clips waiting = okLine
-saidText (said.Value x) number serial clips waiting = valueLine x
-saidText said.Held number serial clips waiting = heldLine number serial clips
-saidText said.Cards number serial clips waiting = cardsLine serial waiting
-saidText said.Help number serial clips waiting = helpText
+-- what is said, with a number, serials, counts and alarms where a hold or `cards` says them
+unfoldable pub saidText : Said → ℕ → Serial → Clips → Alarms → Serial → List ℕ
+saidText (said.Unread why) number serial clips alarms waiting = unreadLine why
+saidText (said.Refused n) number serial clips alarms waiting = refusedLine n
+saidText said.Done number serial clips alarms waiting = okLine
+saidText (said.Value x) number serial clips alarms waiting = valueLine x
+saidText said.Held number serial clips alarms waiting = heldLine number serial clips alarms
+saidText said.Cards number serial clips alarms waiting = cardsLine serial waiting
+saidText said.Help number serial clips alarms waiting = helpText
 
 -- the whole answer to a turn
 unfoldable pub answerText : Turn → List ℕ
-answerText t = saidText (t .said) (t .number) (t .serial) (t .clips) (t .waiting)
+answerText t = saidText (t .said) (t .number) (t .serial) (t .clips) (t .alarms) (t .waiting)

@@ -2,7 +2,7 @@
 use Prim.Native.Nat.{ℕ, zero, suc, _+_}
 use mathlib.Core.Path.{_≡_}
 use mathlib.Core.Bool.{cond, _&&_}
-use mathlib.Core.List.{List, [], _∷_}
+use mathlib.Core.List.{List, [], _∷_, _++_}
 use lib.IntN.{ℤ, pos, negsuc}
 use lib.Signed.{leZ}
 use lib.ListN.{length, take, drop}
@@ -81,8 +81,8 @@ unfoldable pub samples : ℕ → List Kind
 samples zero = []
 samples (suc n) = kind.Sample ∷ samples n
 
--- the numbers stand at the start of a buffer
-pub record Filled (r : Row) (buffer : List ℤ) (row : Numbers) : Type 0 where
+-- the numbers stand at the start of a buffer; behind them it is as it was
+pub record Filled (r : Row) (was buffer : List ℤ) (row : Numbers) : Type 0 where
   pub count : r .count ≡ length (row .values)
   pub bytes : r .taken ≡ row .bytes
-  pub values : take (length (row .values)) buffer ≡ row .values
+  pub values : buffer ≡ row .values ++ drop (length (row .values)) was

@@ -12,7 +12,7 @@ use Rattle.aberzhan.specs.Module.{startOf}
 use Rattle.console.specs.declared.input.Session.{Session}
 use Rattle.console.specs.declared.turns.Turn.{Turn}
 use Rattle.console.specs.Texts.{withoutReturn}
-use Rattle.console.specs.Turns.{turnOf}
+use Rattle.console.specs.Turns.{askedOf, turnOf}
 use Rattle.console.specs.Answers.{answerText}
 
 -- the module, the bytes of a line that has not ended, and the answers that are not yet written
@@ -48,7 +48,9 @@ talked t (c ∷ cs) = talked (cond (eqb c 10) (ended t) (keeping t (c ∷ []))) 
 
 -- the whole answers to an input: before the first accepted start the module is that of a refused one; the last line may lack its line feed
 unfoldable pub fresh : Module
-fresh = startOf (pos 0) (pos 0) (wordAddr (pos 0) ∷ wordAddr (pos 0) ∷ wordAddr (pos 0) ∷ wordAddr (pos 0) ∷ wordAddr (pos 0) ∷ wordAddr (pos 0) ∷ []) .after
+fresh =
+    let off = wordAddr (pos 0) in
+    startOf (pos 0) (pos 0) (off ∷ off ∷ off ∷ off ∷ off ∷ off ∷ []) (askedOf []) .after
 
 abbrev pub begin : Talk
 begin = record { state = fresh; kept = []; said = [] }
@@ -68,16 +70,16 @@ written s = record { «module» = s .«module»; kept = s .kept; used = 0 }
 -- the bytes kept are in the line's buffer, and those of the answers in theirs, with room for so many more; and what the buffers hold
 pub record Ready (s : Session) (line out : List ℕ) (v i : List ℤ) (answers : ℕ) : Type 0 where
   pub kept : s .kept ≤ length line
-  pub used : s .used + 1024 * answers ≤ length out
+  pub used : s .used + 1280 * answers ≤ length out
   pub line-room : length line ≡ 131073
   pub v-room : length v ≡ 8192
   pub i-room : length i ≡ 8192
 
--- a read of 256 bytes ends at most so many lines, and no answer is longer than 1,024 bytes
+-- a read of 256 bytes ends at most so many lines, and no answer is longer than 1,280 bytes
 pub record Rooms (chunk line out : List ℕ) (v i : List ℤ) : Type 0 where
   pub chunk-room : length chunk ≡ 256
   pub line-room : length line ≡ 131073
-  pub out-room : length out ≡ 262144
+  pub out-room : length out ≡ 327680
   pub v-room : length v ≡ 8192
   pub i-room : length i ≡ 8192
 

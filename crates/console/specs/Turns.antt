@@ -1,13 +1,15 @@
 -- What a line comes to: the step that it is, handed to the module, and what is said of it.
 use Prim.Native.Nat.{ℕ}
-use mathlib.Core.Bool.{cond}
+use mathlib.Core.Bool.{cond, _&&_}
 use mathlib.Core.List.{List, [], _∷_}
-use lib.Dec.{ltb}
+use lib.Dec.{eqb, ltb}
 use lib.IntN.{ℤ, pos}
 use lib.ListN.{length, take, drop, getD}
 use Rattle.serial.specs.Serials.{noSerial}
 use Rattle.address.specs.Addresses.{wordAddr, byteAddr}
 use Rattle.sample.specs.Sums.{noClips}
+use Rattle.alarm.specs.declared.Asked.{Asked}
+use Rattle.alarm.specs.Masks.{noAlarms}
 use Rattle.steps.specs.declared.Answer.{Answer}
 use Rattle.steps.specs.declared.Answer.the-variants as answer
 use Rattle.port.specs.declared.Reading.{Reading}
@@ -16,11 +18,10 @@ use Rattle.aberzhan.specs.declared.Module.{Module}
 use Rattle.aberzhan.specs.declared.Stepped.{Stepped}
 use Rattle.aberzhan.specs.declared.Holding.{Holding}
 use Rattle.aberzhan.specs.declared.Looked.{Looked}
-use Rattle.aberzhan.specs.Module.{startOf, openOf, writeOf, commitOf, dropOf, holdOf, readOf, blockOf}
+use Rattle.aberzhan.specs.Module.{startOf, openOf, writeOf, commitOf, dropOf, holdOf, readOf, blockOf, resetOf}
 use Rattle.aberzhan.specs.Cards.{cardsOf}
 use Rattle.console.specs.declared.words.Word.{Word}
 use Rattle.console.specs.declared.words.Word.the-variants as word
-use Rattle.console.specs.declared.words.Kind.the-variants as kind
 use Rattle.console.specs.declared.unread.Why.{Why}
 use Rattle.console.specs.declared.unread.Why.the-variants as why
 use Rattle.console.specs.declared.turns.Said.{Said}
@@ -28,14 +29,14 @@ use Rattle.console.specs.declared.turns.Said.the-variants as said
 use Rattle.console.specs.declared.turns.Turn.{Turn}
 use Rattle.console.specs.Texts.{beginsWith, lengthTo}
 use Rattle.console.specs.Items.{rowOf, samples}
-use Rattle.console.specs.Words.{wordOf, itemsOf}
-use Rattle.console.specs.Unread.{stoppedAt, sideStopped}
+use Rattle.console.specs.Words.{wordOf, itemsOf, enough}
+use Rattle.console.specs.Unread.{stoppedBefore, sideStopped}
 
 -- ---- what is said
 
--- without a number, serials and counts
+-- without a number, serials, counts and alarms
 abbrev pub plainly : Said → Module → Turn
-plainly s m = record { said = s; number = 0; serial = noSerial; clips = noClips; waiting = noSerial; after = m }
+plainly s m = record { said = s; number = 0; serial = noSerial; clips = noClips; alarms = noAlarms; waiting = noSerial; after = m }
 
 abbrev pub unreadTurn : Module → Why → Turn
 unreadTurn m why = plainly (said.Unread why) m
@@ -51,9 +52,17 @@ abbrev pub heldSaid : Answer → Said
 heldSaid answer.Done = said.Held
 heldSaid (answer.Refused n) = said.Refused n
 
--- an interval's number, its serial and its counts of clipped samples
+-- an interval's number, its serial and its counts of clipped samples; and the alarms
 abbrev pub heldTurn : Holding → Turn
-heldTurn h = record { said = heldSaid (h .answer); number = h .number; serial = h .serial; clips = h .clips; waiting = noSerial; after = h .after }
+heldTurn h = record {
+  said = heldSaid (h .answer);
+  number = h .number;
+  serial = h .serial;
+  clips = h .clips;
+  alarms = h .alarms;
+  waiting = noSerial;
+  after = h .after;
+}
 
 abbrev pub readSaid : Reading → Said
 readSaid (reading.Value x) = said.Value x
@@ -64,7 +73,15 @@ readTurn l = plainly (readSaid (l .answer)) (l .after)
 
 -- the serials of the card in force and of the one that waits
 abbrev pub cardsTurn : Module → Turn
-cardsTurn m = record { said = said.Cards; number = 0; serial = cardsOf m .force; clips = noClips; waiting = cardsOf m .waiting; after = m }
+cardsTurn m = record {
+  said = said.Cards;
+  number = 0;
+  serial = cardsOf m .force;
+  clips = noClips;
+  alarms = noAlarms;
+  waiting = cardsOf m .waiting;
+  after = m;
+}
 
 -- a refused start keeps the module that runs
 abbrev pub begunBy : Answer → Module → Module → Module
@@ -79,11 +96,16 @@ startedTurn m s = plainly (saidOf (s .answer)) (begunBy (s .answer) (s .after) m
 abbrev pub nth : List ℤ → ℕ → ℤ
 nth x k = getD x k (pos 0)
 
+-- what a start asks of its alarms; left out, 1 0 0 0
+abbrev pub askedOf : List ℤ → Asked
+askedOf x = record { w = getD x 8 (pos 1); vsag = nth x 9; vsurge = nth x 10; sticky = nth x 11 }
+
 abbrev pub startTurn : Module → List ℤ → Turn
 startTurn m x =
     startedTurn m
     (startOf (nth x 0) (nth x 1)
-    (wordAddr (nth x 2) ∷ wordAddr (nth x 3) ∷ wordAddr (nth x 4) ∷ wordAddr (nth x 5) ∷ wordAddr (nth x 6) ∷ wordAddr (nth x 7) ∷ []))
+    (wordAddr (nth x 2) ∷ wordAddr (nth x 3) ∷ wordAddr (nth x 4) ∷ wordAddr (nth x 5) ∷ wordAddr (nth x 6) ∷ wordAddr (nth x 7) ∷ [])
+    (askedOf x))
 
 abbrev pub itemsTurn : Module → Word → List ℤ → Turn
 itemsTurn m word.Start x = startTurn m x
@@ -92,27 +114,28 @@ itemsTurn m word.Commit x = steppedTurn (commitOf m (nth x 0))
 itemsTurn m word.Drop x = steppedTurn (dropOf m (nth x 0))
 itemsTurn m word.Hold x = heldTurn (holdOf m (nth x 0))
 itemsTurn m word.Read x = readTurn (readOf m (nth x 0) (byteAddr (nth x 1)))
+itemsTurn m word.Reset x = steppedTurn (resetOf m (nth x 0))
 itemsTurn m word.Cards x = cardsTurn m
 itemsTurn m word.Help x = plainly said.Help m
 itemsTurn m word.Open x = unreadTurn m why.NoStep
 itemsTurn m word.Block x = unreadTurn m why.NoStep
 itemsTurn m word.Other x = unreadTurn m why.NoStep
 
--- every item that the step has, and nothing behind them
+-- enough of the items that the step has, and nothing behind them
 unfoldable pub withItems : Module → Word → List ℕ → Turn
 withItems m w rest =
     let row = rowOf (itemsOf w) rest in
     let count = length (row .values) in
-    cond (ltb count (length (itemsOf w))) (unreadTurn m (stoppedAt (getD (itemsOf w) count kind.Number) (drop (row .bytes) rest)))
-    (cond (ltb (row .bytes) (length rest)) (unreadTurn m why.More)
-    (itemsTurn m w (row .values)))
+    let behind = drop (row .bytes) rest in
+    cond (eqb (length behind) 0 && enough w count) (itemsTurn m w (row .values))
+    (unreadTurn m (stoppedBefore (drop count (itemsOf w)) behind))
 
 -- ---- open: the text is all that follows the space behind the port
 unfoldable pub withText : Module → List ℕ → Turn
 withText m rest =
     let row = rowOf (itemsOf word.Open) rest in
     let behind = drop (row .bytes) rest in
-    cond (ltb (length (row .values)) 1) (unreadTurn m (stoppedAt kind.Number behind))
+    cond (ltb (length (row .values)) 1) (unreadTurn m (stoppedBefore (itemsOf word.Open) behind))
     (cond (beginsWith (32 ∷ []) behind) (steppedTurn (openOf m (nth (row .values) 0) (drop 1 behind)))
     (unreadTurn m why.Missing))
 
@@ -142,6 +165,7 @@ wordTurn a b m word.Commit rest = withItems m word.Commit rest
 wordTurn a b m word.Drop rest = withItems m word.Drop rest
 wordTurn a b m word.Hold rest = withItems m word.Hold rest
 wordTurn a b m word.Read rest = withItems m word.Read rest
+wordTurn a b m word.Reset rest = withItems m word.Reset rest
 wordTurn a b m word.Cards rest = withItems m word.Cards rest
 wordTurn a b m word.Help rest = withItems m word.Help rest
 

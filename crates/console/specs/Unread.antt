@@ -29,10 +29,11 @@ notA kind.Slot = NotRegister
 notA kind.Register = NotRegister
 notA kind.Sample = NotSample
 
--- where an item of this kind must stand, the line ends or has something else
-unfoldable pub stoppedAt : Kind → List ℕ → Why
-stoppedAt k [] = Missing
-stoppedAt k (c ∷ cs) = notA k
+-- where the step has items of these kinds yet, the line ends too early or has something else
+unfoldable pub stoppedBefore : List Kind → List ℕ → Why
+stoppedBefore ks [] = Missing
+stoppedBefore [] (c ∷ cs) = More
+stoppedBefore (k ∷ ks) (c ∷ cs) = notA k
 
 -- behind so many samples of a side, which has room for some, the line ends or has something else
 unfoldable pub sideStopped : ℕ → ℕ → List ℕ → Why

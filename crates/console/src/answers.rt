@@ -6,7 +6,8 @@ ghost use lib.ListN.{length, take};
 ghost use Rattle.serial.specs.Ascii.{ascii};
 ghost use Rattle.console.specs.Unread.{whyWords};
 ghost use Rattle.console.specs.Inside.{placeOf};
-ghost use Rattle.console.specs.Answers.{unreadLine, refusedLine, valueLine, clipsText, heldLine, cardsLine, helpText, answerText};
+ghost use Rattle.console.specs.Answers.{unreadLine, refusedLine, valueLine, clipsText, alarmText, alarmsText, heldLine};
+ghost use Rattle.console.specs.Answers.{cardsLine, helpText, answerText};
 use super::output::put;
 use super::output::put_card;
 use super::output::put_digits;
@@ -15,17 +16,21 @@ use super::output::put_words;
 use super::turns::Said;
 use super::turns::Turn;
 use super::unread::Why;
+use alarm::Alarms;
 use sample::Clips;
 use serial::Serial;
 
-const HELP: [u8; 962] = *b"\
-    # start N B SLOT SLOT SLOT SLOT SLOT SLOT: N samples an interval, energy buckets of B, six registers to track or 0\n\
+const HELP: [u8; 1222] = *b"\
+    # start N B SLOT SLOT SLOT SLOT SLOT SLOT [W [VSAG [VSURGE [STICKY]]]]: N samples an interval, energy buckets of B, six registers to track or 0\n\
+    #   W samples in half a cycle, sag and surge levels or 0 (off), and the alarms that stay set: a mask as of reset; left out: 1 0 0 0\n\
     # open PORT SERIAL: begins a card; ports are 0 and 1\n\
     # write PORT FIELD VALUE: VOFFS IOFFS VGAIN IGAIN PHASE IRMSOFFS SQUELCH POFFS, or 1 to 8\n\
     # commit PORT: the card is whole and waits for the next interval\n\
     # drop PORT: the card is forgotten\n\
     # block VOLTAGES | CURRENTS: samples, at most 4,096 a side\n\
-    # hold PORT: keeps the last closed interval; answers its number, its card's serial, and how many of its voltages and currents were clipped\n\
+    # reset MASK: clears alarms: 0x200000 sag, 0x200 surge, 0x200200 both\n\
+    # hold PORT: keeps the last closed interval; answers its number, its card's serial, \
+    how many of its voltages and currents were clipped, and both alarms as they are now\n\
     # read PORT REGISTER: of what is held; a name (VA_RMS, WATT_A, PA_POS_CNT, MIN1 ..) or a byte address\n\
     # cards: the serials of the card in force and of the one that waits\n\
     # help: these lines\n\
@@ -142,17 +147,47 @@ fn put_clips(out: &mut [u8], used: usize, clips: Clips) -> usize
     put_number(out, c, clips.i as i64)
 }
 
-// An interval's number, its serial and its counts of clipped samples.
-fn held_line(out: &mut [u8], used: usize, number: u32, serial: Serial, clips: Clips) -> usize
-    requires { ⌜ used + 80 ≤ length (now out) ⌝ }
-    ensures { λ r. ⌜ (take r (now (out .exit)) ≡ take used (now (out .entry)) ++ heldLine number serial clips) × (r ≤ used + 80) ⌝ }
+// An alarm's word where it is set, else `-`.
+fn put_alarm(out: &mut [u8], used: usize, word: &[u8], set: bool) -> usize
+    requires { ⌜ (used + 5 ≤ length (now out)) × (length (now word) ≤ 5) ⌝ }
+    ensures { λ r. ⌜ (take r (now (out .exit)) ≡ take used (now (out .entry)) ++ alarmText (now (word .entry)) set) × (r ≤ used + 5) ⌝ }
+{
+    if set {
+        return put(out, used, word);
+    }
+    put(out, used, b"-")
+}
+
+// Both alarms, a space before each.
+fn put_alarms(out: &mut [u8], used: usize, alarms: Alarms) -> usize
+    requires { ⌜ used + 12 ≤ length (now out) ⌝ }
+    ensures { λ r. ⌜ (take r (now (out .exit)) ≡ take used (now (out .entry)) ++ alarmsText alarms) × (r ≤ used + 12) ⌝ }
+{
+    let a = put(out, used, b" ");
+    let b = put_alarm(out, a, b"SAG", alarms.sag);
+    let c = put(out, b, b" ");
+    put_alarm(out, c, b"SURGE", alarms.surge)
+}
+
+// An interval's number, its serial and its counts of clipped samples; and both alarms.
+fn held_line(
+    out: &mut [u8],
+    used: usize,
+    number: u32,
+    serial: Serial,
+    clips: Clips,
+    alarms: Alarms,
+) -> usize
+    requires { ⌜ used + 96 ≤ length (now out) ⌝ }
+    ensures { λ r. ⌜ (take r (now (out .exit)) ≡ take used (now (out .entry)) ++ heldLine number serial clips alarms) × (r ≤ used + 96) ⌝ }
 {
     let a = put(out, used, b"ok ");
     let b = put_number(out, a, number as i64);
     let c = put(out, b, b" ");
     let d = put_digits(out, c, serial);
     let e = put_clips(out, d, clips);
-    put(out, e, b"\n")
+    let f = put_alarms(out, e, alarms);
+    put(out, f, b"\n")
 }
 
 // The serials of the card in force and of the one that waits.
@@ -168,8 +203,8 @@ fn cards_line(out: &mut [u8], used: usize, force: Serial, waiting: Serial) -> us
 }
 
 fn help_lines(out: &mut [u8], used: usize) -> usize
-    requires { ⌜ used + 1024 ≤ length (now out) ⌝ }
-    ensures { λ r. ⌜ (take r (now (out .exit)) ≡ take used (now (out .entry)) ++ helpText) × (r ≤ used + 1024) ⌝ }
+    requires { ⌜ used + 1280 ≤ length (now out) ⌝ }
+    ensures { λ r. ⌜ (take r (now (out .exit)) ≡ take used (now (out .entry)) ++ helpText) × (r ≤ used + 1280) ⌝ }
 {
     let help = HELP;
     put(out, used, &help)
@@ -177,19 +212,20 @@ fn help_lines(out: &mut [u8], used: usize) -> usize
 
 // What a turn says, behind the bytes that are used.
 pub(super) fn put_answer(out: &mut [u8], used: usize, t: Turn) -> usize
-    requires { ⌜ used + 1024 ≤ length (now out) ⌝ }
-    ensures { λ r. ⌜ (take r (now (out .exit)) ≡ take used (now (out .entry)) ++ answerText t) × (r ≤ used + 1024) ⌝ }
+    requires { ⌜ used + 1280 ≤ length (now out) ⌝ }
+    ensures { λ r. ⌜ (take r (now (out .exit)) ≡ take used (now (out .entry)) ++ answerText t) × (r ≤ used + 1280) ⌝ }
 {
     let said = t.said;
     let serial = t.serial;
     let clips = t.clips;
+    let alarms = t.alarms;
     let waiting = t.waiting;
     match said {
         Said::Unread(why) => unread_line(out, used, why),
         Said::Refused(n) => refused_line(out, used, n),
         Said::Done => put(out, used, b"ok\n"),
         Said::Value(x) => value_line(out, used, x),
-        Said::Held => held_line(out, used, t.number, serial, clips),
+        Said::Held => held_line(out, used, t.number, serial, clips, alarms),
         Said::Cards => cards_line(out, used, serial, waiting),
         Said::Help => help_lines(out, used),
     }

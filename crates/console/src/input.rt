@@ -11,6 +11,7 @@ use super::texts::line_length;
 use super::turns::take_line;
 use aberzhan::Module;
 use address::word_addr;
+use alarm::Asked;
 use libc::STDIN_FILENO;
 use libc::STDOUT_FILENO;
 
@@ -32,7 +33,13 @@ fn begun() -> More
     ensures { λ r. ⌜ r ≡ record { session = record { «module» = fresh; kept = 0; used = 0 }; more = true } ⌝ }
 {
     let off = word_addr(0);
-    let s = Module::start(0, 0, [off, off, off, off, off, off]);
+    let lowest = Asked {
+        w: 1,
+        vsag: 0,
+        vsurge: 0,
+        sticky: 0,
+    };
+    let s = Module::start(0, 0, [off, off, off, off, off, off], lowest);
     let module = s.after;
     let session = Session {
         module,
@@ -74,7 +81,7 @@ fn is_silent(line: &[u8]) -> bool
 fn end_line(mut s: Session, line: &[u8], v: &mut [i32], i: &mut [i32], out: &mut [u8]) -> Session
     requires { ⌜ Ready s (now line) (now out) (now v) (now i) 1 ⌝ }
     ensures { λ r. ⌜ talkOf r (now (line .entry)) (now (out .exit)) ≡ ended (talkOf s (now (line .entry)) (now (out .entry))) ⌝ }
-    ensures { λ r. ⌜ (r .kept ≡ 0) × (r .used ≤ s .used + 1024) ⌝ }
+    ensures { λ r. ⌜ (r .kept ≡ 0) × (r .used ≤ s .used + 1280) ⌝ }
 {
     let kept = s.kept;
     s.kept = 0;

@@ -97,8 +97,8 @@ pub(super) fn next_item(k: Kind, text: &[u8]) -> Next
 
 // Takes the items of a step into a lent buffer, until another thing comes or the step has no more.
 pub(super) fn take_items(w: Word, text: &[u8], into: &mut [i64]) -> Row
-    requires { ⌜ 8 ≤ length (now into) ⌝ }
-    ensures { λ r. ⌜ Filled r (now (into .exit)) (rowOf (itemsOf w) (now (text .entry))) ⌝ }
+    requires { ⌜ 12 ≤ length (now into) ⌝ }
+    ensures { λ r. ⌜ Filled r (now (into .entry)) (now (into .exit)) (rowOf (itemsOf w) (now (text .entry))) ⌝ }
 {
     let most = arity(w);
     let mut count = 0;
@@ -121,7 +121,7 @@ pub(super) fn take_items(w: Word, text: &[u8], into: &mut [i64]) -> Row
 
 // Takes samples into a lent buffer, until another thing comes or the buffer is full.
 pub(super) fn take_samples(text: &[u8], into: &mut [i32]) -> Row
-    ensures { λ r. ⌜ Filled r (now (into .exit)) (rowOf (samples (length (now (into .entry)))) (now (text .entry))) ⌝ }
+    ensures { λ r. ⌜ Filled r (now (into .entry)) (now (into .exit)) (rowOf (samples (length (now (into .entry)))) (now (text .entry))) ⌝ }
 {
     let mut count = 0;
     let mut at = 0;

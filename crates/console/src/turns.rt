@@ -6,24 +6,24 @@ ghost use Rattle.address.specs.Addresses.{byteAddr};
 ghost use Rattle.aberzhan.specs.Module.{holdOf, readOf};
 ghost use Rattle.console.specs.Inside.{slotsOf};
 ghost use Rattle.console.specs.Turns.{plainly, unreadTurn, saidOf, steppedTurn, heldSaid, heldTurn, readSaid, readTurn, cardsTurn};
-ghost use Rattle.console.specs.Turns.{startedTurn, startTurn, itemsTurn, withItems, withText, currentsTurn, withSamples, turnOf};
+ghost use Rattle.console.specs.Turns.{startedTurn, askedOf, startTurn, itemsTurn, withItems, withText, currentsTurn, withSamples, turnOf};
 use super::items::take_items;
 use super::items::take_samples;
 use super::texts::begins;
 use super::texts::length_to;
 use super::unread::Why;
 use super::unread::side_stopped;
-use super::unread::stopped_at;
-use super::words::Kind;
+use super::unread::stopped;
 use super::words::Word;
-use super::words::arity;
+use super::words::are_enough;
 use super::words::first_word;
-use super::words::kind_at;
 use aberzhan::Module;
 use aberzhan::Stepped;
 use address::WordAddr;
 use address::byte_addr;
 use address::word_addr;
+use alarm::Alarms;
+use alarm::Asked;
 use port::Reading;
 use sample::Clips;
 use serial::Serial;
@@ -42,13 +42,14 @@ pub enum Said {
     Help,
 }
 
-// What is said, and the module after the step. A hold says an interval's number, its serial and its counts of clipped samples, `cards` the serials
-// in force and waiting.
+// What is said, and the module after the step. A hold says an interval's number, its serial, its counts of clipped samples and both alarms,
+// `cards` the serials in force and waiting.
 pub struct Turn {
     pub said: Said,
     pub number: u32,
     pub serial: Serial,
     pub clips: Clips,
+    pub alarms: Alarms,
     pub waiting: Serial,
     pub after: Module,
 }
@@ -62,6 +63,10 @@ fn plain(said: Said, m: Module) -> Turn
         number: 0,
         serial: none,
         clips: Clips { v: 0, i: 0 },
+        alarms: Alarms {
+            sag: false,
+            surge: false,
+        },
         waiting: none,
         after: m,
     }
@@ -106,6 +111,7 @@ fn held(m: Module, port: i64) -> Turn
     let answer = h.answer;
     let serial = h.serial;
     let clips = h.clips;
+    let alarms = h.alarms;
     let after = h.after;
     let said = said_of_hold(answer);
     let none = Serial::none();
@@ -114,6 +120,7 @@ fn held(m: Module, port: i64) -> Turn
         number: h.number,
         serial,
         clips,
+        alarms,
         waiting: none,
         after,
     }
@@ -148,6 +155,10 @@ fn shown(m: Module) -> Turn
         number: 0,
         serial: force,
         clips: Clips { v: 0, i: 0 },
+        alarms: Alarms {
+            sag: false,
+            surge: false,
+        },
         waiting,
         after: m,
     }
@@ -165,7 +176,7 @@ fn started(m: Module, s: Stepped) -> Turn
 }
 
 // The words that a start tracks.
-fn slots(x: [i64; 8]) -> [WordAddr; 6]
+fn slots(x: [i64; 12]) -> [WordAddr; 6]
     ensures { λ r. ⌜ r ≡ slotsOf x ⌝ }
 {
     let a = word_addr(x[2]);
@@ -177,14 +188,26 @@ fn slots(x: [i64; 8]) -> [WordAddr; 6]
     [a, b, c, d, e, f]
 }
 
-fn start(m: Module, x: [i64; 8]) -> Turn
+// What it asks of its alarms.
+fn asked(x: [i64; 12]) -> Asked
+    ensures { λ r. ⌜ r ≡ askedOf x ⌝ }
+{
+    Asked {
+        w: x[8],
+        vsag: x[9],
+        vsurge: x[10],
+        sticky: x[11],
+    }
+}
+
+fn start(m: Module, x: [i64; 12]) -> Turn
     ensures { λ r. ⌜ r ≡ startTurn m x ⌝ }
 {
-    started(m, Module::start(x[0], x[1], slots(x)))
+    started(m, Module::start(x[0], x[1], slots(x), asked(x)))
 }
 
 // A step whose items are worth these numbers.
-fn with_worths(m: Module, w: Word, x: [i64; 8]) -> Turn
+fn with_worths(m: Module, w: Word, x: [i64; 12]) -> Turn
     ensures { λ r. ⌜ r ≡ itemsTurn m w x ⌝ }
 {
     match w {
@@ -194,38 +217,38 @@ fn with_worths(m: Module, w: Word, x: [i64; 8]) -> Turn
         Word::Drop => stepped(m.drop(x[0])),
         Word::Hold => held(m, x[0]),
         Word::Read => looked(m, x[0], x[1]),
+        Word::Reset => stepped(m.reset(x[0])),
         Word::Cards => shown(m),
         Word::Help => plain(Said::Help, m),
         _ => unread(m, Why::NoStep),
     }
 }
 
+// What is left out of a start's numbers is 0, and its W, the ninth, 1.
 fn with_items(m: Module, w: Word, rest: &[u8]) -> Turn
     ensures { λ r. ⌜ r ≡ withItems m w (now (rest .entry)) ⌝ }
 {
-    let mut x = [0i64; 8];
+    let mut x = [0i64; 12];
+    x[8] = 1;
     let n = take_items(w, rest, &mut x);
     let at = n.taken;
-    if n.count < arity(w) {
-        let k = kind_at(w, n.count);
-        return unread(m, stopped_at(k, &rest[at..]));
+    let behind = &rest[at..];
+    if (behind.len() == 0) & are_enough(w, n.count) {
+        return with_worths(m, w, x);
     }
-    if at < rest.len() {
-        return unread(m, Why::More);
-    }
-    with_worths(m, w, x)
+    unread(m, stopped(w, n.count, behind))
 }
 
 // The text is all that follows the space behind the port.
 fn with_text(m: Module, rest: &[u8]) -> Turn
     ensures { λ r. ⌜ r ≡ withText m (now (rest .entry)) ⌝ }
 {
-    let mut x = [0i64; 8];
+    let mut x = [0i64; 12];
     let n = take_items(Word::Open, rest, &mut x);
     let at = n.taken;
     let behind = &rest[at..];
     if n.count < 1 {
-        return unread(m, stopped_at(Kind::Number, behind));
+        return unread(m, stopped(Word::Open, 0, behind));
     }
     if begins(behind, b" ") {
         return stepped(m.open(x[0], &behind[1..]));

@@ -1,7 +1,12 @@
 // Why a line is not read.
 ghost use mathlib.Core.Path.{_≡_};
-ghost use Rattle.console.specs.Unread.{notA, stoppedAt, sideStopped};
+ghost use lib.ListN.{drop};
+ghost use Rattle.console.specs.Unread.{notA, stoppedBefore, sideStopped};
+ghost use Rattle.console.specs.Words.{itemsOf};
 use super::words::Kind;
+use super::words::Word;
+use super::words::arity;
+use super::words::kind_at;
 
 pub enum Why {
     TooLong,
@@ -29,15 +34,17 @@ fn not_a(k: Kind) -> Why
     }
 }
 
-// Where an item of this kind must stand, the line has `behind`.
-pub(super) fn stopped_at(k: Kind, behind: &[u8]) -> Why
-    ensures { λ r. ⌜ r ≡ stoppedAt k (now (behind .entry)) ⌝ }
+// Behind `count` items of a step the line has `behind`: it ends too early or has something else.
+pub(super) fn stopped(w: Word, count: usize, behind: &[u8]) -> Why
+    ensures { λ r. ⌜ r ≡ stoppedBefore (drop count (itemsOf w)) (now (behind .entry)) ⌝ }
 {
     if behind.len() == 0 {
-        Why::Missing
-    } else {
-        not_a(k)
+        return Why::Missing;
     }
+    if count < arity(w) {
+        return not_a(kind_at(w, count));
+    }
+    Why::More
 }
 
 // Behind `count` samples of a side, which has room for so many, the line has neither a sample nor what ends the side.

@@ -3,7 +3,7 @@ ghost use mathlib.Core.Path.{_≡_};
 ghost use Prim.Native.Nat.{_≤_, _<_};
 ghost use lib.ListN.{length, getD};
 ghost use Rattle.console.specs.declared.words.Kind.the-variants as «kind»;
-ghost use Rattle.console.specs.Words.{wordOf, itemsOf};
+ghost use Rattle.console.specs.Words.{wordOf, itemsOf, enough};
 use serial::same_text;
 
 pub enum Word {
@@ -15,6 +15,7 @@ pub enum Word {
     Hold,
     Read,
     Block,
+    Reset,
     Cards,
     Help,
     Other,
@@ -56,6 +57,9 @@ pub(super) fn first_word(item: &[u8]) -> Word
     if same_text(b"block", item) {
         return Word::Block;
     }
+    if same_text(b"reset", item) {
+        return Word::Reset;
+    }
     if same_text(b"cards", item) {
         return Word::Cards;
     }
@@ -67,10 +71,10 @@ pub(super) fn first_word(item: &[u8]) -> Word
 
 // How many items follow it, but for the text of an open and the samples of a block.
 pub(super) fn arity(w: Word) -> usize
-    ensures { λ r. ⌜ (r ≡ length (itemsOf w)) × (r ≤ 8) ⌝ }
+    ensures { λ r. ⌜ (r ≡ length (itemsOf w)) × (r ≤ 12) ⌝ }
 {
     match w {
-        Word::Start => 8,
+        Word::Start => 12,
         Word::Open => 1,
         Word::Write => 3,
         Word::Commit => 1,
@@ -78,10 +82,18 @@ pub(super) fn arity(w: Word) -> usize
         Word::Hold => 1,
         Word::Read => 2,
         Word::Block => 0,
+        Word::Reset => 1,
         Word::Cards => 0,
         Word::Help => 0,
         Word::Other => 0,
     }
+}
+
+// Whether so many of them are enough: a start's last four may be left out.
+pub(super) fn are_enough(w: Word, count: usize) -> bool
+    ensures { λ r. ⌜ r ≡ enough w count ⌝ }
+{
+    (arity(w) <= count) | (8 <= count)
 }
 
 // What must stand as its kth item.
@@ -90,7 +102,13 @@ pub(super) fn kind_at(w: Word, k: usize) -> Kind
     ensures { λ r. ⌜ r ≡ getD (itemsOf w) k «kind».Number ⌝ }
 {
     match w {
-        Word::Start => { if k < 2 { Kind::Number } else { Kind::Slot } }
+        Word::Start => {
+            if (2 <= k) & (k < 8) {
+                Kind::Slot
+            } else {
+                Kind::Number
+            }
+        }
         Word::Write => { if k == 1 { Kind::Field } else { Kind::Number } }
         Word::Read => { if k == 1 { Kind::Register } else { Kind::Number } }
         Word::Open => Kind::Number,
@@ -98,6 +116,7 @@ pub(super) fn kind_at(w: Word, k: usize) -> Kind
         Word::Drop => Kind::Number,
         Word::Hold => Kind::Number,
         Word::Block => Kind::Number,
+        Word::Reset => Kind::Number,
         Word::Cards => Kind::Number,
         Word::Help => Kind::Number,
         Word::Other => Kind::Number,

@@ -1,7 +1,9 @@
-// Runs what document 01 lists under "Run by a program": each limit, and one past it. Prints a line for each with the answer.
+// Runs what document 01 lists under "Run by a program", and the W of change request A3: each limit, and one past it. Prints a line for each with
+// the answer.
 use aberzhan::Module;
 use aberzhan::Stepped;
 use address::WordAddr;
+use alarm::Asked;
 use change::Changed;
 use libc::STDOUT_FILENO;
 use serial::Serial;
@@ -41,6 +43,16 @@ fn off() -> [WordAddr; 6] {
     [WordAddr(0); 6]
 }
 
+// W samples in half a cycle; the alarms are off.
+fn half_cycle(w: i64) -> Asked {
+    Asked {
+        w,
+        vsag: 0,
+        vsurge: 0,
+        sticky: 0,
+    }
+}
+
 fn open(m: Module, serial: &[u8]) {
     let s = m.open(0, serial);
     say_step(s);
@@ -48,7 +60,7 @@ fn open(m: Module, serial: &[u8]) {
 
 // 12 digits taken, 13 refused.
 fn serials() {
-    let s = Module::start(1, 1, off());
+    let s = Module::start(1, 1, off(), half_cycle(1));
     say(b"SERIAL OF 12 DIGITS ");
     open(s.after, b"012345678901");
     say(b"SERIAL OF 13 DIGITS ");
@@ -58,10 +70,20 @@ fn serials() {
 // N 4,096 taken, 4,097 refused.
 fn starts() {
     say(b"N 4096 ");
-    let a = Module::start(4096, 1, off());
+    let a = Module::start(4096, 1, off(), half_cycle(1));
     say_step(a);
     say(b"N 4097 ");
-    let b = Module::start(4097, 1, off());
+    let b = Module::start(4097, 1, off(), half_cycle(1));
+    say_step(b);
+}
+
+// W 512 taken, 513 refused.
+fn half_cycles() {
+    say(b"W 512 ");
+    let a = Module::start(1, 1, off(), half_cycle(512));
+    say_step(a);
+    say(b"W 513 ");
+    let b = Module::start(1, 1, off(), half_cycle(513));
     say_step(b);
 }
 
@@ -70,7 +92,7 @@ const PLAIN: [i64; 8] = [0, 0, 2097152, 2097152, 0, 0, 0, 0];
 
 // A module whose card 0417 waits.
 fn with_card() -> Module {
-    let s = Module::start(4096, 1, off());
+    let s = Module::start(4096, 1, off(), half_cycle(1));
     let o = s.after.open(0, b"0417");
     let mut m = o.after;
     let mut k: usize = 0;
@@ -137,6 +159,7 @@ fn cards() {
 fn main() {
     serials();
     starts();
+    half_cycles();
     blocks();
     cards();
 }

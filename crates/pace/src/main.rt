@@ -1,9 +1,12 @@
-// The pace: feeds one block of 4,096 samples again and again, as often as the argument says, and prints the registers once.
+// pace [BLOCKS [W [READS]]]: feeds one block of 4,096 samples so often, with W samples in half a cycle; then holds and reads so often; and prints
+// what a last hold tells: the registers, the interval's number, its counts of clipped samples, and both alarms.
 ghost use Prim.Native.Nat.{_≤_};
 use aberzhan::Looked;
 use aberzhan::Module;
+use aberzhan::Stepped;
 use address::byte_addr;
 use address::word_addr;
+use alarm::Asked;
 use libc::STDOUT_FILENO;
 use port::Reading;
 use steps::Answer;
@@ -14,11 +17,10 @@ const REGISTERS: [i64; 9] = [0x81, 0xBA, 0xD2, 0xE1, 0xEA, 0x12F, 0x1A1, 0x1AD, 
 // Fields 1 to 8; with these gains some samples are clipped.
 const FIELDS: [i64; 8] = [17, -5, 2200000, 2150000, 1000, 3, 10, 2];
 
-// How often the block is fed: a number of at most nine digits. Without one, 100.
-fn times(text: &[u8]) -> u64 {
-    if text.len() == 0 {
-        return 100;
-    }
+// A number of at most nine digits; any other text is 0.
+fn number_in(text: &[u8]) -> u64
+    ensures { λ r. ⌜ r ≤ 999999999 ⌝ }
+{
     let mut n: u64 = 0;
     let mut k = 0;
     while k < text.len() {
@@ -36,6 +38,19 @@ fn times(text: &[u8]) -> u64 {
         k += 1;
     }
     n
+}
+
+// An argument, or what is usual where it is left out.
+fn argument(k: usize, usual: u64) -> u64
+    requires { ⌜ usual ≤ 999999999 ⌝ }
+    ensures { λ r. ⌜ r ≤ 999999999 ⌝ }
+{
+    let mut text = [0u8; 16];
+    let n = os::arg(k, &mut text);
+    if n == 0 {
+        return usual;
+    }
+    number_in(&text[..n])
 }
 
 // The next number of the row, below 2^32.
@@ -78,11 +93,21 @@ fn written(mut m: Module) -> Module {
     m
 }
 
-// Started, with a card that waits.
-fn prepared() -> Module {
+// Started with W samples in half a cycle; sag stays set.
+fn started(w: i64) -> Stepped {
     let off = word_addr(0);
-    let s = Module::start(400, 0x0001AFC8BB4C, [off, off, off, off, off, off]);
-    let o = s.after.open(0, b"0417");
+    let asked = Asked {
+        w,
+        vsag: 4000000,
+        vsurge: 6000000,
+        sticky: 0x200000,
+    };
+    Module::start(400, 0x0001AFC8BB4C, [off, off, off, off, off, off], asked)
+}
+
+// With a card that waits.
+fn prepared(m: Module) -> Module {
+    let o = m.open(0, b"0417");
     let m = written(o.after);
     let c = m.commit(0);
     c.after
@@ -119,6 +144,33 @@ fn told(s: Looked) -> i64 {
     }
 }
 
+// Reads each of the nine registers. No value is below 24 bits; that it is looked at keeps the reads in the program that is timed.
+fn all_read(held: Module) -> bool {
+    let mut k: usize = 0;
+    while k < 9 {
+        if told(held.read(0, byte_addr(REGISTERS[k]))) < -8388608 {
+            return false;
+        }
+        k += 1;
+    }
+    true
+}
+
+// Holds, and reads the nine registers, n times.
+fn reread(mut m: Module, n: u64) -> Module {
+    let mut k: u64 = 0;
+    while k < n {
+        let h = m.hold(0);
+        m = h.after;
+        if all_read(m) {
+            k += 1;
+        } else {
+            k = n;
+        }
+    }
+    m
+}
+
 fn print_registers(held: Module) {
     let mut k: usize = 0;
     while k < 9 {
@@ -128,30 +180,48 @@ fn print_registers(held: Module) {
     }
 }
 
-// The registers, the interval's number and its counts of clipped samples; without any block, why there are none.
+fn print_alarm(set: bool) {
+    print_count(if set { 1 } else { 0 });
+}
+
+fn print_refused(n: u8) {
+    io::write_all(STDOUT_FILENO, b"REFUSED ");
+    io::print_decimal(STDOUT_FILENO, n as u64);
+    io::write_all(STDOUT_FILENO, b"\n");
+}
+
+// The registers, the interval's number, its counts of clipped samples and both alarms; without any block, why there are none.
 fn print_held(m: Module) {
     let h = m.hold(0);
     let answer = h.answer;
     if let Answer::Refused(n) = answer {
-        io::write_all(STDOUT_FILENO, b"REFUSED ");
-        io::print_decimal(STDOUT_FILENO, n as u64);
+        print_refused(n);
     } else {
         print_registers(h.after);
         io::print_decimal(STDOUT_FILENO, h.number as u64);
         print_count(h.clips.v);
         print_count(h.clips.i);
+        print_alarm(h.alarms.sag);
+        print_alarm(h.alarms.surge);
+        io::write_all(STDOUT_FILENO, b"\n");
     }
-    io::write_all(STDOUT_FILENO, b"\n");
 }
 
 fn main() {
-    let mut text = [0u8; 16];
-    let n = os::arg(1, &mut text);
-    let blocks = times(&text[..n]);
+    let blocks = argument(1, 100);
+    let w = argument(2, 40);
+    let reads = argument(3, 0);
+    let s = started(w as i64);
+    let answer = s.answer;
+    if let Answer::Refused(n) = answer {
+        print_refused(n);
+        return;
+    }
     let mut v = [0i32; 4096];
     let mut i = [0i32; 4096];
     make_block(&mut v, &mut i);
-    let ready = prepared();
-    let m = fed(ready, blocks, &v, &i);
+    let ready = prepared(s.after);
+    let fed = fed(ready, blocks, &v, &i);
+    let m = reread(fed, reads);
     print_held(m);
 }

@@ -22,7 +22,7 @@ table =
     ∷ "the port is open already"
     ∷ "the port is not open"
     ∷ "no such field"
-    ∷ "a value outside its field's range"
+    ∷ "a value outside its range"
     ∷ "a field not written"
     ∷ "no interval has closed yet"
     ∷ "nothing is held on this port"

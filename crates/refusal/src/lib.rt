@@ -19,7 +19,7 @@ const ROWS: [u8; 880] = *b"\
     the port is open already                \
     the port is not open                    \
     no such field                           \
-    a value outside its field's range       \
+    a value outside its range               \
     a field not written                     \
     no interval has closed yet              \
     nothing is held on this port            \
@@ -45,7 +45,7 @@ const LENGTHS: [usize; 22] = [
     24,
     20,
     13,
-    33,
+    25,
     19,
     26,
     28,

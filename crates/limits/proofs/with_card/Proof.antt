@@ -13,6 +13,9 @@ abbrev μ-loop : tie.MeasureT-loop
 off-requires : tie.Need-off-requires Inv-loop μ-loop
 off-requires c κs = search needs
 
+half-cycle-requires : tie.Need-half-cycle-requires Inv-loop μ-loop
+half-cycle-requires c κs = search needs
+
 start-requires : tie.Need-start-requires Inv-loop μ-loop
 start-requires c κs = search needs
 
@@ -62,6 +65,7 @@ with-card-spec =
     Inv-loop
     μ-loop
     off-requires
+    half-cycle-requires
     start-requires
     slice-aggregate-open
     open-requires

@@ -18,7 +18,7 @@ use Rattle.console.proofs.items.take_items.Statement.{statement}
 use Rattle.console.proofs.items.take_items.Tie as tie
 
 abbrev Inv-loop : tie.InvT-loop
-Inv-loop w text into₀ most count₀ at₀ into count at = Going (itemsOf w) text into count at × (most ≡ length (itemsOf w)) × (length into ≡ length into₀)
+Inv-loop w text into₀ most count₀ at₀ into count at = Going (itemsOf w) text into₀ into count at × (most ≡ length (itemsOf w)) × (length into ≡ length into₀)
 
 abbrev μ-loop : tie.MeasureT-loop
 μ-loop w text into₀ most count₀ at₀ into count at = most - count
@@ -82,7 +82,7 @@ loop-less : tie.Need-loop-less Inv-loop μ-loop
 loop-less c = omega (arith, c .before .before .before .before .before .before .loop-test .taken)
 
 loop-again : tie.Need-loop-again Inv-loop μ-loop
-loop-again c = (rw (toZ-ofZ (fits c)) (further _ _ kind.Number _ _ _ (c .before .before .before .before .before .before .before .loop .inv .0) (below (c .before .before .before .before .before .before)) _ _ (found c)), c .before .before .before .before .before .before .before .loop .inv .1, simp length-set (c .before .before .before .before .before .before .before .loop .inv .2))
+loop-again c = (rw (toZ-ofZ (fits c)) (further _ _ _ kind.Number _ _ _ (c .before .before .before .before .before .before .before .loop .inv .0) (below (c .before .before .before .before .before .before)) _ _ (found c)), c .before .before .before .before .before .before .before .loop .inv .1, simp length-set (c .before .before .before .before .before .before .before .loop .inv .2))
 
 enum-told : tie.Need-enum-told Inv-loop μ-loop
 enum-told c = search needs
@@ -91,13 +91,13 @@ same-length : tie.Need-same-length Inv-loop μ-loop
 same-length c = c .before .before .before .before .before .before .loop .inv .2
 
 returns : tie.Need-returns Inv-loop μ-loop
-returns c = ended _ _ _ _ _ (c .before .before .before .before .before .before .loop .inv .0) (another _ _ kind.Number _ _ _ (c .before .before .before .before .before .before .loop .inv .0) (below (c .before .before .before .before .before)) (sym (rest (c .before .before)) ∙ c .enum-told .given .1))
+returns c = ended _ _ _ _ _ _ (c .before .before .before .before .before .before .loop .inv .0) (another _ _ _ kind.Number _ _ _ (c .before .before .before .before .before .before .loop .inv .0) (below (c .before .before .before .before .before)) (sym (rest (c .before .before)) ∙ c .enum-told .given .1))
 
 same-length-2 : tie.Need-same-length-2 Inv-loop μ-loop
 same-length-2 c = c .before .loop .inv .2
 
 returns-2 : tie.Need-returns-2 Inv-loop μ-loop
-returns-2 c = ended _ _ _ _ _ (c .before .loop .inv .0) (full (itemsOf (c .before .before .before .before .args .w)) (c .before .loop .count) (drop (c .before .loop .at) (c .before .before .before .before .args .text .now)) (omega (arith, c .loop-test .left, c .before .loop .inv .1)))
+returns-2 c = ended _ _ _ _ _ _ (c .before .loop .inv .0) (full (itemsOf (c .before .before .before .before .args .w)) (c .before .loop .count) (drop (c .before .loop .at) (c .before .before .before .before .args .text .now)) (omega (arith, c .loop-test .left, c .before .loop .inv .1)))
 
 pub take-items-spec : {M : Type 1} → statement M
 take-items-spec =

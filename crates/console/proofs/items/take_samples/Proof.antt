@@ -17,7 +17,7 @@ use Rattle.console.proofs.items.take_samples.Statement.{statement}
 use Rattle.console.proofs.items.take_samples.Tie as tie
 
 abbrev Inv-loop : tie.InvT-loop
-Inv-loop text into₀ count₀ at₀ into count at = Going (samples (length into₀)) text into count at × (length into ≡ length into₀)
+Inv-loop text into₀ count₀ at₀ into count at = Going (samples (length into₀)) text into₀ into count at × (length into ≡ length into₀)
 
 abbrev μ-loop : tie.MeasureT-loop
 μ-loop text into₀ count₀ at₀ into count at = length into - count
@@ -81,7 +81,7 @@ loop-less : tie.Need-loop-less Inv-loop μ-loop
 loop-less c = simp length-set (omega arith)
 
 loop-again : tie.Need-loop-again Inv-loop μ-loop
-loop-again c = (rw (toZ-ofZ (fits c), toZ-ofZ (narrow c)) (further _ _ kind.Sample _ _ _ (c .before .before .before .before .before .before .loop .inv .0) (below (c .before .before .before .before .before)) _ _ (sampled (c .before .before .before .before .before .before) ∙ found c)), simp length-set (c .before .before .before .before .before .before .loop .inv .1))
+loop-again c = (rw (toZ-ofZ (fits c), toZ-ofZ (narrow c)) (further _ _ _ kind.Sample _ _ _ (c .before .before .before .before .before .before .loop .inv .0) (below (c .before .before .before .before .before)) _ _ (sampled (c .before .before .before .before .before .before) ∙ found c)), simp length-set (c .before .before .before .before .before .before .loop .inv .1))
 
 enum-told : tie.Need-enum-told Inv-loop μ-loop
 enum-told c = search needs
@@ -90,13 +90,13 @@ same-length : tie.Need-same-length Inv-loop μ-loop
 same-length c = c .before .before .before .before .before .loop .inv .1
 
 returns : tie.Need-returns Inv-loop μ-loop
-returns c = ended _ _ _ _ _ (c .before .before .before .before .before .loop .inv .0) (another _ _ kind.Sample _ _ _ (c .before .before .before .before .before .loop .inv .0) (below (c .before .before .before .before)) (sampled (c .before .before .before .before .before) ∙ sym (rest (c .before .before)) ∙ c .enum-told .given .1))
+returns c = ended _ _ _ _ _ _ (c .before .before .before .before .before .loop .inv .0) (another _ _ _ kind.Sample _ _ _ (c .before .before .before .before .before .loop .inv .0) (below (c .before .before .before .before)) (sampled (c .before .before .before .before .before) ∙ sym (rest (c .before .before)) ∙ c .enum-told .given .1))
 
 same-length-2 : tie.Need-same-length-2 Inv-loop μ-loop
 same-length-2 c = c .before .loop .inv .1
 
 returns-2 : tie.Need-returns-2 Inv-loop μ-loop
-returns-2 c = ended _ _ _ _ _ (c .before .loop .inv .0) (full (samples (length (c .before .before .before .args .into .now))) (c .before .loop .count) (drop (c .before .loop .at) (c .before .before .before .args .text .now)) (omega (arith, c .loop-test .left, c .before .loop .inv .1, samples-long (length (c .before .before .before .args .into .now)))))
+returns-2 c = ended _ _ _ _ _ _ (c .before .loop .inv .0) (full (samples (length (c .before .before .before .args .into .now))) (c .before .loop .count) (drop (c .before .loop .at) (c .before .before .before .args .text .now)) (omega (arith, c .loop-test .left, c .before .loop .inv .1, samples-long (length (c .before .before .before .args .into .now)))))
 
 pub take-samples-spec : {M : Type 1} → statement M
 take-samples-spec =

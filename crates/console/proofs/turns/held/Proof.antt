@@ -15,7 +15,8 @@ none-requires c κs = search needs
 
 returns : tie.Need-returns
 returns c =
-    simp (c .none .ensures, c .before .said-of-hold .ensures, rw (toZ-ofZ (c .before .before .before .before .before .before .fits .port)) at (c .before .before .before .before .before .hold .ensures))
+    let h = c .before .before .before .before .before .before in
+    simp (c .none .ensures, c .before .said-of-hold .ensures, rw (toZ-ofZ (h .before .fits .port)) at (h .hold .ensures))
 
 pub held-spec : {M : Type 1} → statement M
 held-spec =

@@ -1,4 +1,4 @@
--- `plain` says something without a number, serials and counts.
+-- `plain` says something without a number, serials, counts and alarms.
 use borrow.Author.Needs.{needs}
 use Rattle.console.proofs.turns.plain.Statement.{statement}
 use Rattle.console.proofs.turns.plain.Tie as tie

@@ -1,4 +1,4 @@
--- `start` is the step that eight numbers make.
+-- `start` is the step that twelve numbers make.
 use Rattle.console.proofs.TurnLaws.{as-read}
 use borrow.Author.Needs.{needs}
 use Rattle.console.proofs.turns.start.Statement.{statement}
@@ -13,6 +13,9 @@ array-copy-out-start-2 c = search needs
 slots-requires : tie.Need-slots-requires
 slots-requires c κs = search needs
 
+asked-requires : tie.Need-asked-requires
+asked-requires c κs = search needs
+
 start-requires : tie.Need-start-requires
 start-requires c κs = search needs
 
@@ -21,13 +24,14 @@ started-requires c κs = search needs
 
 returns : tie.Need-returns
 returns c =
-    let x = c .before .before .before .before .before .args .t2 in
+    let x = c .before .before .before .before .before .before .args .t2 in
     simp (
       c .started .ensures,
       c .before .start .ensures,
-      c .before .before .slots .ensures,
-      as-read x 0 (c .before .before .before .before .start-arg .given),
-      as-read x 1 (c .before .before .before .start-arg2 .given),
+      c .before .before .asked .ensures,
+      c .before .before .before .slots .ensures,
+      as-read x 0 (c .before .before .before .before .before .start-arg .given),
+      as-read x 1 (c .before .before .before .before .start-arg2 .given),
     )
 
 pub start-spec : {M : Type 1} → statement M
@@ -37,6 +41,7 @@ start-spec =
     array-copy-out-start
     array-copy-out-start-2
     slots-requires
+    asked-requires
     start-requires
     started-requires
     returns)

@@ -45,7 +45,7 @@ returns c =
     c .unread .ensures
     ∙ ap (λ (w : Why). unreadTurn (c .before .before .before .before .before .before .before .before .args .m) w)
     (c .before .side-stopped .ensures ∙ ap (λ (n : ℕ). sideStopped n (t .result .count) (take (length (c .before .before .before .before .before .before .before .before .args .text .now) - t .result .taken) (drop (t .result .taken) (c .before .before .before .before .before .before .before .before .args .text .now)))) (t .kept .1 .0) ∙ ap (sideStopped (length (c .before .before .before .before .before .before .before .before .args .i .now)) (t .result .count)) (rest-of (t .result .taken) (c .before .before .before .before .before .before .before .before .args .text .now)))
-    ∙ odd-current _ _ _ _ _ _ (t .ensures) (c .before .before .before .if1 .taken)
+    ∙ odd-current _ _ _ _ _ _ _ (t .ensures) (c .before .before .before .if1 .taken)
 
 slice-reshare-prefix-block : tie.Need-slice-reshare-prefix-block
 slice-reshare-prefix-block c = room (c .before .before)
@@ -63,7 +63,7 @@ same-length-2 : tie.Need-same-length-2
 same-length-2 c = search needs
 
 returns-2 : tie.Need-returns-2
-returns-2 c = c .stepped .ensures ∙ ap steppedTurn (c .before .block .ensures) ∙ whole-block _ _ _ _ _ _ (c .before .before .before .before .before .take-samples .ensures) (c .before .before .before .if1 .left)
+returns-2 c = c .stepped .ensures ∙ ap steppedTurn (c .before .block .ensures) ∙ whole-block _ _ _ _ _ _ _ (c .before .before .before .before .before .take-samples .ensures) (c .before .before .before .if1 .left)
 
 pub with-currents-spec : {M : Type 1} → statement M
 with-currents-spec =

@@ -74,7 +74,7 @@ returns c =
     c .before .with-currents .ensures
     ∙ ap (currentsTurn (length (c .before .before .before .before .before .before .before .before .before .before .before .before .before .args .i .now)) (c .before .before .before .before .before .before .before .before .before .before .before .before .before .args .m) (take (t .result .count) (t .last .1 .0)))
     (ap (λ (b : List _). take (length b - 2) (drop 2 b)) (rest-of (t .result .taken) (c .before .before .before .before .before .before .before .before .before .before .before .before .before .args .rest .now)) ∙ rest-of 2 (drop (c .before .before .before .before .before .before .before .before .before .before .take-samples .result .taken) (c .before .before .before .before .before .before .before .before .before .before .before .before .before .args .rest .now)))
-    ∙ behind-bar _ _ _ _ _ _ (t .ensures) (sym (barred (c .before .before .before .before .before .before)) ∙ c .before .before .before .before .before .if1 .taken)
+    ∙ behind-bar _ _ _ _ _ _ _ (t .ensures) (sym (barred (c .before .before .before .before .before .before)) ∙ c .before .before .before .before .before .if1 .taken)
 
 side-stopped-requires : tie.Need-side-stopped-requires
 side-stopped-requires c κs = search needs
@@ -91,7 +91,7 @@ returns-2 c =
     c .unread .ensures
     ∙ ap (λ (w : Why). unreadTurn (c .before .before .before .before .before .before .before .before .before .before .args .m) w)
     (c .before .side-stopped .ensures ∙ ap (λ (n : ℕ). sideStopped n (t .result .count) (take (length (c .before .before .before .before .before .before .before .before .before .before .args .rest .now) - t .result .taken) (drop (t .result .taken) (c .before .before .before .before .before .before .before .before .before .before .args .rest .now)))) (t .kept .1 .0) ∙ ap (sideStopped (length (c .before .before .before .before .before .before .before .before .before .before .args .v .now)) (t .result .count)) (rest-of (t .result .taken) (c .before .before .before .before .before .before .before .before .before .before .args .rest .now)))
-    ∙ no-bar _ _ _ _ _ _ (t .ensures) (sym (barred (c .before .before .before)) ∙ c .before .before .if1 .left)
+    ∙ no-bar _ _ _ _ _ _ _ (t .ensures) (sym (barred (c .before .before .before)) ∙ c .before .before .if1 .left)
 
 pub with-samples-spec : {M : Type 1} → statement M
 with-samples-spec =

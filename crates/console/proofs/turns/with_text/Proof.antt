@@ -5,10 +5,9 @@ use mathlib.Core.List.{[], _∷_}
 use lib.ListN.{length, drop}
 use Rattle.console.specs.declared.words.Word.the-variants.{Open}
 use Rattle.console.specs.declared.unread.Why.{Why}
-use Rattle.console.specs.declared.words.Kind.the-variants as kind
 use Rattle.console.specs.Texts.{beginsWith}
 use Rattle.console.specs.Words.{itemsOf}
-use Rattle.console.specs.Unread.{stoppedAt}
+use Rattle.console.specs.Unread.{stoppedBefore}
 use Rattle.console.specs.Turns.{unreadTurn}
 use Rattle.console.proofs.TextLaws.{begins-within, rest-of}
 use Rattle.console.proofs.ItemLaws.{row-within}
@@ -38,16 +37,16 @@ part-behind-start c = inside (c .before)
 part-behind-end : tie.Need-part-behind-end
 part-behind-end c = search needs
 
-stopped-at-requires : tie.Need-stopped-at-requires
-stopped-at-requires c κs = search needs
+stopped-requires : tie.Need-stopped-requires
+stopped-requires c κs = search needs
 
 unread-requires : tie.Need-unread-requires
 unread-requires c κs = search needs
 
 returns : tie.Need-returns
 returns c = c .unread .ensures
-    ∙ ap (λ (w : Why). unreadTurn (c .before .before .before .before .before .before .before .before .before .args .m) w) (c .before .stopped-at .ensures ∙ ap (stoppedAt kind.Number) (rest-of (c .before .before .before .before .before .before .take-items .result .taken) (c .before .before .before .before .before .before .before .before .before .args .rest .now)))
-    ∙ no-port _ _ _ _ (c .before .before .before .before .before .before .take-items .ensures) (c .before .before .if1 .taken)
+    ∙ ap (λ (w : Why). unreadTurn (c .before .before .before .before .before .before .before .before .before .args .m) w) (c .before .stopped .ensures ∙ ap (stoppedBefore (itemsOf Open)) (rest-of (c .before .before .before .before .before .before .take-items .result .taken) (c .before .before .before .before .before .before .before .before .before .args .rest .now)))
+    ∙ no-port _ _ _ _ _ (c .before .before .before .before .before .before .take-items .ensures) (c .before .before .if1 .taken)
 
 slice-aggregate-begins : tie.Need-slice-aggregate-begins
 slice-aggregate-begins c = search needs
@@ -83,13 +82,13 @@ returns-2 c =
       rest-of 1 (drop (c .before .before .before .before .before .before .before .before .before .before .before .take-items .result .taken) (c .before .before .before .before .before .before .before .before .before .before .before .before .before .before .args .rest .now)),
       rest-of (t .result .taken) (c .before .before .before .before .before .before .before .before .before .before .before .before .before .before .args .rest .now),
     )
-    (some-text _ _ _ _ (t .ensures) (c .before .before .before .before .before .before .before .if1 .left) (sym (spaced (c .before .before .before .before .before)) ∙ c .before .before .before .before .if2 .taken))
+    (some-text _ _ _ _ _ (t .ensures) (c .before .before .before .before .before .before .before .if1 .left) (sym (spaced (c .before .before .before .before .before)) ∙ c .before .before .before .before .if2 .taken))
 
 unread-requires-2 : tie.Need-unread-requires-2
 unread-requires-2 c κs = search needs
 
 returns-3 : tie.Need-returns-3
-returns-3 c = c .unread2 .ensures ∙ no-text _ _ _ _ (c .before .before .before .before .before .before .before .before .take-items .ensures) (c .before .before .before .before .if1 .left) (sym (spaced (c .before .before)) ∙ c .before .if2 .left)
+returns-3 c = c .unread2 .ensures ∙ no-text _ _ _ _ _ (c .before .before .before .before .before .before .before .before .take-items .ensures) (c .before .before .before .before .if1 .left) (sym (spaced (c .before .before)) ∙ c .before .if2 .left)
 
 pub with-text-spec : {M : Type 1} → statement M
 with-text-spec =
@@ -100,7 +99,7 @@ with-text-spec =
     sub-behind
     part-behind-start
     part-behind-end
-    stopped-at-requires
+    stopped-requires
     unread-requires
     returns
     slice-aggregate-begins

@@ -77,11 +77,23 @@ looked-requires c κs = search needs
 enum-told-7 : tie.Need-enum-told-7
 enum-told-7 c = search needs
 
-shown-requires : tie.Need-shown-requires
-shown-requires c κs = search needs
+array-copy-out-reset : tie.Need-array-copy-out-reset
+array-copy-out-reset c = search needs
+
+reset-requires : tie.Need-reset-requires
+reset-requires c κs = search needs
+
+stepped-requires-4 : tie.Need-stepped-requires-4
+stepped-requires-4 c κs = search needs
 
 enum-told-8 : tie.Need-enum-told-8
 enum-told-8 c = search needs
+
+shown-requires : tie.Need-shown-requires
+shown-requires c κs = search needs
+
+enum-told-9 : tie.Need-enum-told-9
+enum-told-9 c = search needs
 
 plain-requires : tie.Need-plain-requires
 plain-requires c κs = search needs
@@ -118,15 +130,20 @@ returns-6 c =
     simp (c .before .before .before .enum-told6 .given .1, c .looked .ensures, as-read x 0 (c .before .before .looked-arg .given), as-read x 1 (c .before .looked-arg2 .given))
 
 returns-7 : tie.Need-returns-7
-returns-7 c = simp (c .before .enum-told7 .given .1, c .shown .ensures)
+returns-7 c =
+    let x = c .before .before .before .before .before .args .t3 in
+    simp (c .before .before .before .enum-told7 .given .1, c .stepped4 .ensures, c .before .reset .ensures, as-read x 0 (c .before .before .reset-arg .given))
 
 returns-8 : tie.Need-returns-8
-returns-8 c = simp (c .before .enum-told8 .given .1, c .plain .ensures)
+returns-8 c = simp (c .before .enum-told8 .given .1, c .shown .ensures)
 
 returns-9 : tie.Need-returns-9
-returns-9 c =
+returns-9 c = simp (c .before .enum-told9 .given .1, c .plain .ensures)
+
+returns-10 : tie.Need-returns-10
+returns-10 c =
     let a = c .before .before .args in
-    c .unread .ensures ∙ no-items (a .m) (a .w) (a .t3) (c .before .match .keys9)
+    c .unread .ensures ∙ no-items (a .m) (a .w) (a .t3) (c .before .match .keys10)
 
 pub with-worths-spec : {M : Type 1} → statement M
 with-worths-spec =
@@ -156,8 +173,12 @@ with-worths-spec =
     array-copy-out-looked-2
     looked-requires
     enum-told-7
-    shown-requires
+    array-copy-out-reset
+    reset-requires
+    stepped-requires-4
     enum-told-8
+    shown-requires
+    enum-told-9
     plain-requires
     unread-requires
     returns
@@ -168,4 +189,5 @@ with-worths-spec =
     returns-6
     returns-7
     returns-8
-    returns-9)
+    returns-9
+    returns-10)

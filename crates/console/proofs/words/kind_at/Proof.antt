@@ -3,16 +3,12 @@ use Prim.Native.Nat.{_≤_, _<_}
 use mathlib.Core.Path.{refl, sym}
 use native.Mathlib.Omega.{arith}
 use lib.ListN.{length}
-use Rattle.console.specs.declared.words.Word.the-variants.{Open, Commit, Drop, Hold, Block, Cards, Help, Other}
+use Rattle.console.specs.declared.words.Word.the-variants.{Open, Commit, Drop, Hold, Block, Reset, Cards, Help, Other}
 use Rattle.console.specs.Words.{itemsOf}
-use Rattle.console.proofs.WordLaws.{slot-at, start-number, write-number, read-number, one-number}
+use Rattle.console.proofs.WordLaws.{start-kind, write-number, read-number, one-number}
 use borrow.Author.Needs.{needs}
 use Rattle.console.proofs.words.kind_at.Statement.{statement}
 use Rattle.console.proofs.words.kind_at.Tie as tie
-
-below-start : (c : tie.After-enum-told) → c .before .before .args .k < 8
-unfolding itemsOf
-below-start c = rw (c .enum-told .given .1) at (c .before .before .pre)
 
 below-write : (c : tie.After-enum-told2) → c .before .before .args .k < 3
 unfolding itemsOf
@@ -37,6 +33,10 @@ few-hold = omega arith
 few-block : length (itemsOf Block) ≤ 1
 unfolding itemsOf
 few-block = omega arith
+
+few-reset : length (itemsOf Reset) ≤ 1
+unfolding itemsOf
+few-reset = omega arith
 
 few-cards : length (itemsOf Cards) ≤ 1
 unfolding itemsOf
@@ -83,11 +83,14 @@ enum-told-10 c = search needs
 enum-told-11 : tie.Need-enum-told-11
 enum-told-11 c = search needs
 
+enum-told-12 : tie.Need-enum-told-12
+enum-told-12 c = search needs
+
 returns : tie.Need-returns
-returns c = rw (c .before .enum-told .given .1) (sym (start-number (c .before .before .before .args .k) (c .if1 .taken)))
+returns c = rw (c .before .enum-told .given .1, start-kind, c .if1 .taken) refl
 
 returns-2 : tie.Need-returns-2
-returns-2 c = rw (c .before .enum-told .given .1) (sym (slot-at (c .before .before .before .args .k) (c .if1 .left) (below-start (c .before))))
+returns-2 c = rw (c .before .enum-told .given .1, start-kind, c .if1 .left) refl
 
 returns-3 : tie.Need-returns-3
 unfolding itemsOf
@@ -119,13 +122,16 @@ returns-11 : tie.Need-returns-11
 returns-11 c = rw (c .enum-told8 .given .1) (sym (one-number Block (c .before .before .args .k) (few-block)))
 
 returns-12 : tie.Need-returns-12
-returns-12 c = rw (c .enum-told9 .given .1) (sym (one-number Cards (c .before .before .args .k) (few-cards)))
+returns-12 c = rw (c .enum-told9 .given .1) (sym (one-number Reset (c .before .before .args .k) (few-reset)))
 
 returns-13 : tie.Need-returns-13
-returns-13 c = rw (c .enum-told10 .given .1) (sym (one-number Help (c .before .before .args .k) (few-help)))
+returns-13 c = rw (c .enum-told10 .given .1) (sym (one-number Cards (c .before .before .args .k) (few-cards)))
 
 returns-14 : tie.Need-returns-14
-returns-14 c = rw (c .enum-told11 .given .1) (sym (one-number Other (c .before .before .args .k) (few-other)))
+returns-14 c = rw (c .enum-told11 .given .1) (sym (one-number Help (c .before .before .args .k) (few-help)))
+
+returns-15 : tie.Need-returns-15
+returns-15 c = rw (c .enum-told12 .given .1) (sym (one-number Other (c .before .before .args .k) (few-other)))
 
 pub kind-at-spec : {M : Type 1} → statement M
 kind-at-spec =
@@ -142,6 +148,7 @@ kind-at-spec =
     enum-told-9
     enum-told-10
     enum-told-11
+    enum-told-12
     returns
     returns-2
     returns-3
@@ -155,4 +162,5 @@ kind-at-spec =
     returns-11
     returns-12
     returns-13
-    returns-14)
+    returns-14
+    returns-15)

@@ -1,10 +1,10 @@
--- `times` reads a number of at most nine digits.
+-- `number_in` reads a number of at most nine digits.
 use borrow.Author.Needs.{needs}
 use native.Mathlib.Omega.{arith}
 use Prim.Native.Nat.{_-_, _≤_}
 use lib.ListN.{length}
-use Rattle.pace.proofs.times.Statement.{statement}
-use Rattle.pace.proofs.times.Tie as tie
+use Rattle.pace.proofs.number_in.Statement.{statement}
+use Rattle.pace.proofs.number_in.Tie as tie
 
 abbrev Inv-loop : tie.InvT-loop
 Inv-loop text n₀ k₀ n k = (k ≤ length text) × (n ≤ 999999999)
@@ -12,23 +12,20 @@ Inv-loop text n₀ k₀ n k = (k ≤ length text) × (n ≤ 999999999)
 abbrev μ-loop : tie.MeasureT-loop
 μ-loop text n₀ k₀ n k = length text - k
 
-returns : tie.Need-returns Inv-loop μ-loop
-returns c = search needs
-
 loop-holds : tie.Need-loop-holds Inv-loop μ-loop
 loop-holds c = search needs
 
 shared-slice-read-c : tie.Need-shared-slice-read-c Inv-loop μ-loop
 shared-slice-read-c c = search needs
 
+returns : tie.Need-returns Inv-loop μ-loop
+returns c = search needs
+
 returns-2 : tie.Need-returns-2 Inv-loop μ-loop
 returns-2 c = search needs
 
 returns-3 : tie.Need-returns-3 Inv-loop μ-loop
 returns-3 c = search needs
-
-returns-4 : tie.Need-returns-4 Inv-loop μ-loop
-returns-4 c = search needs
 
 mul-n : tie.Need-mul-n Inv-loop μ-loop
 mul-n c = search needs
@@ -48,25 +45,24 @@ loop-less c = omega arith
 loop-again : tie.Need-loop-again Inv-loop μ-loop
 loop-again c = omega (arith, c .before .before .before .shared-slice-known .given (c .before .before .before .before .before .loop .k))
 
-returns-5 : tie.Need-returns-5 Inv-loop μ-loop
-returns-5 c = search needs
+returns-4 : tie.Need-returns-4 Inv-loop μ-loop
+returns-4 c = search needs
 
-pub times-spec : {M : Type 1} → statement M
-times-spec =
+pub number-in-spec : {M : Type 1} → statement M
+number-in-spec =
     tie.close
     (tie.spec
     Inv-loop
     μ-loop
-    returns
     loop-holds
     shared-slice-read-c
+    returns
     returns-2
     returns-3
-    returns-4
     mul-n
     cast-n
     add-n
     add-k
     loop-less
     loop-again
-    returns-5)
+    returns-4)
