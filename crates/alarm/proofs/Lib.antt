@@ -8,4 +8,5 @@ pub mod Starts
 pub mod Rings
 pub mod Standing
 pub mod History
+pub mod Figures
 pub mod Decided

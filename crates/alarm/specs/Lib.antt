@@ -4,4 +4,5 @@ pub mod Alarms
 pub mod Starting
 pub mod Passing
 pub mod History
+pub mod Figures
 pub mod Inside
