@@ -14,8 +14,8 @@ use Rattle.alarm.specs.declared.Alarms.{Alarms}
 use Rattle.alarm.specs.declared.Limits.{Limits}
 use Rattle.alarm.specs.Alarms.{Watching, both, seenWith, clearing}
 use Rattle.alarm.specs.Starting.{freshWatch, noVolts}
-use Rattle.alarm.specs.History.{Came, voltagesOf, lastSquares, alarmsMeant, metBy, Meant}
-use Rattle.alarm.proofs.History.{meant}
+use Rattle.halfcycle.specs.History.{Came, voltagesOf, lastSquares, alarmsMeant, metBy, Meant}
+use Rattle.halfcycle.proofs.History.{meant}
 use Rattle.meter.specs.Core.{core, resetWatch}
 use Rattle.meter.specs.Starting.{freshOf}
 use Rattle.aberzhan.specs.declared.Module.{Module}

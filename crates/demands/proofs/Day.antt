@@ -19,7 +19,7 @@ use Rattle.interval.specs.Close.{sourceAfter, sevenOf, registersAfter, numberAf
 use Rattle.alarm.specs.Masks.{onlyAlarms, namedBy}
 use Rattle.alarm.specs.Alarms.{nextPlace, slidSum, sags, surges, shown, alarmsAfter, watched, seenWith, clearedOf, clearing, resetOf as watchReset}
 use Rattle.alarm.specs.Starting.{numbersOk as levelsOk, askedOk, limitsOf}
-use Rattle.alarm.specs.Passing.{squares, watchSound}
+use Rattle.halfcycle.specs.Passing.{squares, watchSound}
 use Rattle.meter.specs.Core.{samplesOf, lastOf, closedWork, resetWatch}
 use Rattle.meter.specs.Blocks.{waitOf, nextCard, soundOf, blockDone, blockOf as meterBlock, voltsOf}
 use Rattle.meter.specs.Starting.{numbersOk, freshOf}

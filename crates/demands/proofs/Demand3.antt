@@ -21,8 +21,8 @@ use Rattle.sample.specs.Sums.{Sample}
 use Rattle.alarm.specs.declared.Limits.{Limits}
 use Rattle.alarm.specs.Alarms.{both}
 use Rattle.alarm.specs.Starting.{freshWatch, noVolts}
-use Rattle.alarm.specs.Inside.{Good}
-use Rattle.alarm.proofs.Tests.{good-yes}
+use Rattle.halfcycle.specs.Inside.{Good}
+use Rattle.halfcycle.proofs.Tests.{good-yes}
 use Rattle.meter.specs.Core.{core, samplesOf}
 use Rattle.meter.specs.Starting.{noCard, freshWork, freshOf}
 use Rattle.meter.proofs.Sound.{sound-yes}

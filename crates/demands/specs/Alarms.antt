@@ -7,7 +7,7 @@ use Rattle.steps.specs.OneCard.{Tagged, Interval, placeAfter, outset}
 use Rattle.steps.specs.Watching.{Mark, seen, named, marked, withCards, withCardIf}
 use Rattle.sample.specs.Sample.{voltage}
 use Rattle.alarm.specs.declared.Alarms.{Alarms}
-use Rattle.alarm.specs.History.{Came, voltage as comes, reset, voltagesOf, lastSquares, alarmsMeant}
+use Rattle.halfcycle.specs.History.{Came, voltage as comes, reset, voltagesOf, lastSquares, alarmsMeant}
 use Rattle.meter.specs.Core.{core}
 use Rattle.aberzhan.specs.Ports.{ports}
 use Rattle.demands.specs.Program.{Program, first, limits, ran}

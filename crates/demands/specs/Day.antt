@@ -22,7 +22,7 @@ use Rattle.address.specs.declared.WordAddr.{WordAddr}
 use Rattle.address.specs.declared.ByteAddr.{ByteAddr}
 use Rattle.sample.specs.Sums.{noClips}
 use Rattle.alarm.specs.declared.Alarms.{Alarms}
-use Rattle.alarm.specs.History.{Came, voltage, reset as cleared, alarmsMeant}
+use Rattle.halfcycle.specs.History.{Came, voltage, reset as cleared, alarmsMeant}
 use Rattle.energy.specs.declared.Energy.{Energy}
 use Rattle.interval.specs.declared.Closed.{Closed}
 use Rattle.address.specs.Slots.{off}

@@ -9,7 +9,7 @@ use Rattle.steps.specs.Gauge.{newly}
 use Rattle.steps.specs.Promise.{Promise}
 use Rattle.steps.specs.Calls.{Reply, refuses, done, Log, Ran, shorterCalls, CallsDemand3}
 use Rattle.sample.specs.Sums.{Sample}
-use Rattle.alarm.specs.Passing.{watchSound}
+use Rattle.halfcycle.specs.Passing.{watchSound}
 use Rattle.meter.specs.Core.{core, samplesOf}
 use Rattle.meter.specs.Blocks.{soundOf}
 use Rattle.meter.specs.Starting.{noCard}

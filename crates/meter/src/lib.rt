@@ -194,7 +194,7 @@ impl Meter {
         if self.has_card() {
             let next = self.card_behind();
             let turn = self.turn();
-            let p = alarm::pass(a, volts, self.force, next, turn, v);
+            let p = halfcycle::pass(a, volts, self.force, next, turn, v);
             let watch = p.watch;
             if p.ok {
                 self = self.feed(v, i);
