@@ -22,41 +22,41 @@ use Rattle.console.specs.Numbers.{digitOf, worthBehind, digitsOf, positi
 use Rattle.console.specs.Items.{worthIn, nextOf, rowOf}
 use Rattle.console.specs.Words.{itemsOf}
 use Rattle.console.specs.Unread.{whyWords, stoppedBefore}
-use Rattle.console.specs.Turns.{askedOf, withItems}
-use Rattle.console.specs.Answers.{end, unreadLine, refusedLine, valueLine, digitsText, cardText, clipsText, alarmsText, heldLine, cardsLine, saidText}
+use Rattle.console.specs.Turns.{barely, askedOf, withItems}
+use Rattle.console.specs.Answers.{end, unreadLine, refusedLine, valueLine, digitsText, cardText, clipsText, alarmsText, heldLine, cardsLine, saidText, toldText}
 
-refused : saidText (said.Refused 16) 0 noSerial noClips noAlarms noSerial ≡ ascii "REFUSED 16: no register has this byte address" ++ end
-unfolding saidText refusedLine decimal digits ascii wordsOf table
+refused : toldText (barely (said.Refused 16)) ≡ ascii "REFUSED 16: no register has this byte address" ++ end
+unfolding toldText saidText refusedLine decimal digits ascii wordsOf table
 refused = refl
 
-unread : saidText (said.Unread why.NotField) 0 noSerial noClips noAlarms noSerial ≡ ascii "UNREAD: neither a 64-bit number nor a field's name" ++ end
-unfolding saidText unreadLine whyWords ascii
+unread : toldText (barely (said.Unread why.NotField)) ≡ ascii "UNREAD: neither a 64-bit number nor a field's name" ++ end
+unfolding toldText saidText unreadLine whyWords ascii
 unread = refl
 
-value : saidText (said.Value (negsuc 204)) 0 noSerial noClips noAlarms noSerial ≡ ascii "ok -205" ++ end
-unfolding saidText valueLine signedDecimal decimal digits ascii
+value : toldText (barely (said.Value (negsuc 204))) ≡ ascii "ok -205" ++ end
+unfolding toldText saidText valueLine signedDecimal decimal digits ascii
 value = refl
 
 abbrev label : Serial
 label = record { len = 4; digits = 48 ∷ 52 ∷ 49 ∷ 55 ∷ 0 ∷ 0 ∷ 0 ∷ 0 ∷ 0 ∷ 0 ∷ 0 ∷ 0 ∷ [] }
 
 -- three voltages and twelve currents were clipped; the voltage surges
-held : saidText said.Held 7 label (record { v = 3; i = 12 }) (record { sag = false; surge = true }) noSerial ≡ ascii "ok 7 0417 3 12 - SURGE" ++ end
-unfolding saidText heldLine digitsText clipsText alarmsText decimal digits ascii
+held : heldLine 7 label (record { v = 3; i = 12 }) (record { sag = false; surge = true }) ≡ ascii "ok 7 0417 3 12 - SURGE" ++ end
+unfolding heldLine digitsText clipsText alarmsText decimal digits ascii
 held = refl
 
 -- none was, and the most that can be; neither alarm is set, and both
-held-none : saidText said.Held 1 label noClips noAlarms noSerial ≡ ascii "ok 1 0417 0 0 - -" ++ end
-unfolding saidText heldLine digitsText clipsText alarmsText decimal digits ascii
+held-none : heldLine 1 label noClips noAlarms ≡ ascii "ok 1 0417 0 0 - -" ++ end
+unfolding heldLine digitsText clipsText alarmsText decimal digits ascii
 held-none = refl
 
-held-all : saidText said.Held 2 label (record { v = 4096; i = 4096 }) (record { sag = true; surge = true }) noSerial ≡ ascii "ok 2 0417 4096 4096 SAG SURGE" ++ end
-unfolding saidText heldLine digitsText clipsText alarmsText decimal digits ascii
+held-all : heldLine 2 label (record { v = 4096; i = 4096 }) (record { sag = true; surge = true }) ≡ ascii "ok 2 0417 4096 4096 SAG SURGE" ++ end
+unfolding heldLine digitsText clipsText alarmsText decimal digits ascii
 held-all = refl
 
 -- nothing is in force yet, a card waits
-cards : saidText said.Cards 0 noSerial noClips noAlarms label ≡ ascii "ok - 0417" ++ end
-unfolding saidText cardsLine cardText digitsText ascii
+cards : cardsLine noSerial label ≡ ascii "ok - 0417" ++ end
+unfolding cardsLine cardText digitsText ascii
 cards = refl
 
 -- a carriage return belongs to the line's end only right before it
@@ -76,14 +76,14 @@ asked-sag = refl
 
 -- its first eight items must stand; of the rest, what stands must be a number; a thirteenth is too many
 module _ (m : Module) where
-  start-short : withItems m word.Start (ascii " 1 1 0 0 0 0 0") .said ≡ said.Unread why.Missing
+  start-short : withItems m word.Start (ascii " 1 1 0 0 0 0 0") .told .said ≡ said.Unread why.Missing
   unfolding withItems rowOf itemsOf nextOf worthIn valueOf beginsWith lengthTo digitsOf worthBehind digitOf positive registerNamed namedIn spelled registers sameText every stoppedBefore ascii
   start-short = refl
 
-  start-named : withItems m word.Start (ascii " 1 1 0 0 0 0 0 0 40 WATT_A") .said ≡ said.Unread why.NotNumber
+  start-named : withItems m word.Start (ascii " 1 1 0 0 0 0 0 0 40 WATT_A") .told .said ≡ said.Unread why.NotNumber
   unfolding withItems rowOf itemsOf nextOf worthIn valueOf beginsWith lengthTo digitsOf worthBehind digitOf positive registerNamed namedIn spelled registers sameText every stoppedBefore ascii
   start-named = refl
 
-  start-long : withItems m word.Start (ascii " 1 1 0 0 0 0 0 0 1 0 0 0 0") .said ≡ said.Unread why.More
+  start-long : withItems m word.Start (ascii " 1 1 0 0 0 0 0 0 1 0 0 0 0") .told .said ≡ said.Unread why.More
   unfolding withItems rowOf itemsOf nextOf worthIn valueOf beginsWith lengthTo digitsOf worthBehind digitOf positive registerNamed namedIn spelled registers sameText every stoppedBefore ascii
   start-long = refl

@@ -54,7 +54,7 @@ saysNo said.Cards = false
 saysNo said.Help = false
 
 abbrev Keeps : Module → Turn → Type 0
-Keeps m t = saysNo (t .said) ≡ true → t .after ≡ m
+Keeps m t = saysNo (t .told .said) ≡ true → t .after ≡ m
 
 either : (m : Module) (b : Bool) (x y : Turn) → Keeps m x → Keeps m y → Keeps m (cond b x y)
 either m true x y p q = p

@@ -15,6 +15,7 @@ use Rattle.refusal.specs.Words.{wordsOf}
 use Rattle.console.specs.declared.unread.Why.{Why}
 use Rattle.console.specs.declared.turns.Said.{Said}
 use Rattle.console.specs.declared.turns.Said.the-variants as said
+use Rattle.console.specs.declared.turns.Told.{Told}
 use Rattle.console.specs.declared.turns.Turn.{Turn}
 use Rattle.console.specs.Unread.{whyWords}
 
@@ -92,16 +93,19 @@ linesOf (s ∷ ss) = ascii s ++ end ++ linesOf ss
 unfoldable pub helpText : List ℕ
 helpText = linesOf helpLines
 
--- what is said, with a number, serials, counts and alarms where a hold or `cards` says them
-unfoldable pub saidText : Said → ℕ → Serial → Clips → Alarms → Serial → List ℕ
-saidText (said.Unread why) number serial clips alarms waiting = unreadLine why
-saidText (said.Refused n) number serial clips alarms waiting = refusedLine n
-saidText said.Done number serial clips alarms waiting = okLine
-saidText (said.Value x) number serial clips alarms waiting = valueLine x
-saidText said.Held number serial clips alarms waiting = heldLine number serial clips alarms
-saidText said.Cards number serial clips alarms waiting = cardsLine serial waiting
-saidText said.Help number serial clips alarms waiting = helpText
+-- what is said; a hold says a number, a serial, counts and alarms, and `cards` says two serials
+unfoldable pub saidText : Said → Told → List ℕ
+saidText (said.Unread why) t = unreadLine why
+saidText (said.Refused n) t = refusedLine n
+saidText said.Done t = okLine
+saidText (said.Value x) t = valueLine x
+saidText said.Held t = heldLine (t .number) (t .serial) (t .clips) (t .alarms)
+saidText said.Cards t = cardsLine (t .serial) (t .waiting)
+saidText said.Help t = helpText
+
+unfoldable pub toldText : Told → List ℕ
+toldText t = saidText (t .said) t
 
 -- the whole answer to a turn
-unfoldable pub answerText : Turn → List ℕ
-answerText t = saidText (t .said) (t .number) (t .serial) (t .clips) (t .alarms) (t .waiting)
+abbrev pub answerText : Turn → List ℕ
+answerText t = toldText (t .told)

@@ -26,6 +26,7 @@ use Rattle.console.specs.declared.unread.Why.{Why}
 use Rattle.console.specs.declared.unread.Why.the-variants as why
 use Rattle.console.specs.declared.turns.Said.{Said}
 use Rattle.console.specs.declared.turns.Said.the-variants as said
+use Rattle.console.specs.declared.turns.Told.{Told}
 use Rattle.console.specs.declared.turns.Turn.{Turn}
 use Rattle.console.specs.Texts.{beginsWith, lengthTo}
 use Rattle.console.specs.Items.{rowOf, samples}
@@ -35,8 +36,11 @@ use Rattle.console.specs.Unread.{stoppedBefore, sideStopped}
 -- ---- what is said
 
 -- without a number, serials, counts and alarms
+abbrev pub barely : Said → Told
+barely s = record { said = s; number = 0; serial = noSerial; clips = noClips; alarms = noAlarms; waiting = noSerial }
+
 abbrev pub plainly : Said → Module → Turn
-plainly s m = record { said = s; number = 0; serial = noSerial; clips = noClips; alarms = noAlarms; waiting = noSerial; after = m }
+plainly s m = record { told = barely s; after = m }
 
 abbrev pub unreadTurn : Module → Why → Turn
 unreadTurn m why = plainly (said.Unread why) m
@@ -55,12 +59,7 @@ heldSaid (answer.Refused n) = said.Refused n
 -- an interval's number, its serial and its counts of clipped samples; and the alarms
 abbrev pub heldTurn : Holding → Turn
 heldTurn h = record {
-  said = heldSaid (h .answer);
-  number = h .number;
-  serial = h .serial;
-  clips = h .clips;
-  alarms = h .alarms;
-  waiting = noSerial;
+  told = record { said = heldSaid (h .answer); number = h .number; serial = h .serial; clips = h .clips; alarms = h .alarms; waiting = noSerial };
   after = h .after;
 }
 
@@ -73,15 +72,9 @@ readTurn l = plainly (readSaid (l .answer)) (l .after)
 
 -- the serials of the card in force and of the one that waits
 abbrev pub cardsTurn : Module → Turn
-cardsTurn m = record {
-  said = said.Cards;
-  number = 0;
-  serial = cardsOf m .force;
-  clips = noClips;
-  alarms = noAlarms;
-  waiting = cardsOf m .waiting;
-  after = m;
-}
+cardsTurn m =
+    let c = cardsOf m in
+    record { told = record { said = said.Cards; number = 0; serial = c .force; clips = noClips; alarms = noAlarms; waiting = c .waiting }; after = m }
 
 -- a refused start keeps the module that runs
 abbrev pub begunBy : Answer → Module → Module → Module

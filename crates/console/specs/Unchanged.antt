@@ -8,5 +8,5 @@ use Rattle.console.specs.declared.turns.Said.the-variants as said
 use Rattle.console.specs.Session.{lineTurn}
 
 pub record ChangesNothing : Type 0 where
-  pub unread : (m : Module) (line : List ℕ) (why : Why) → lineTurn m line .said ≡ said.Unread why → lineTurn m line .after ≡ m
-  pub refused : (m : Module) (line : List ℕ) (n : ℕ) → lineTurn m line .said ≡ said.Refused n → lineTurn m line .after ≡ m
+  pub unread : (m : Module) (line : List ℕ) (why : Why) → lineTurn m line .told .said ≡ said.Unread why → lineTurn m line .after ≡ m
+  pub refused : (m : Module) (line : List ℕ) (n : ℕ) → lineTurn m line .told .said ≡ said.Refused n → lineTurn m line .after ≡ m

@@ -7,14 +7,14 @@ ghost use Rattle.serial.specs.Ascii.{ascii};
 ghost use Rattle.console.specs.Unread.{whyWords};
 ghost use Rattle.console.specs.Inside.{placeOf};
 ghost use Rattle.console.specs.Answers.{unreadLine, refusedLine, valueLine, clipsText, alarmText, alarmsText, heldLine};
-ghost use Rattle.console.specs.Answers.{cardsLine, helpText, answerText};
+ghost use Rattle.console.specs.Answers.{cardsLine, helpText, toldText};
 use super::output::put;
 use super::output::put_card;
 use super::output::put_digits;
 use super::output::put_number;
 use super::output::put_words;
 use super::turns::Said;
-use super::turns::Turn;
+use super::turns::Told;
 use super::unread::Why;
 use alarm::Alarms;
 use sample::Clips;
@@ -210,10 +210,10 @@ fn help_lines(out: &mut [u8], used: usize) -> usize
     put(out, used, &help)
 }
 
-// What a turn says, behind the bytes that are used.
-pub(super) fn put_answer(out: &mut [u8], used: usize, t: Turn) -> usize
+// What is said, behind the bytes that are used.
+pub(super) fn put_answer(out: &mut [u8], used: usize, t: Told) -> usize
     requires { ⌜ used + 1280 ≤ length (now out) ⌝ }
-    ensures { λ r. ⌜ (take r (now (out .exit)) ≡ take used (now (out .entry)) ++ answerText t) × (r ≤ used + 1280) ⌝ }
+    ensures { λ r. ⌜ (take r (now (out .exit)) ≡ take used (now (out .entry)) ++ toldText t) × (r ≤ used + 1280) ⌝ }
 {
     let said = t.said;
     let serial = t.serial;

@@ -39,7 +39,7 @@ fn begun() -> More
         vsurge: 0,
         sticky: 0,
     };
-    let s = Module::start(0, 0, [off, off, off, off, off, off], lowest);
+    let s = Module::start(0, 0, [off; 6], lowest);
     let module = s.after;
     let session = Session {
         module,
@@ -90,7 +90,8 @@ fn end_line(mut s: Session, line: &[u8], v: &mut [i32], i: &mut [i32], out: &mut
         return s;
     }
     let t = take_line(s.module, &line[..n], v, i);
-    let used = put_answer(out, s.used, t);
+    let told = t.told;
+    let used = put_answer(out, s.used, told);
     s.used = used;
     let after = t.after;
     s.module = after;

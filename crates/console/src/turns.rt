@@ -5,7 +5,7 @@ ghost use lib.ListN.{length};
 ghost use Rattle.address.specs.Addresses.{byteAddr};
 ghost use Rattle.aberzhan.specs.Module.{holdOf, readOf};
 ghost use Rattle.console.specs.Inside.{slotsOf};
-ghost use Rattle.console.specs.Turns.{plainly, unreadTurn, saidOf, steppedTurn, heldSaid, heldTurn, readSaid, readTurn, cardsTurn};
+ghost use Rattle.console.specs.Turns.{barely, plainly, unreadTurn, saidOf, steppedTurn, heldSaid, heldTurn, readSaid, readTurn, cardsTurn};
 ghost use Rattle.console.specs.Turns.{startedTurn, askedOf, startTurn, itemsTurn, withItems, withText, currentsTurn, withSamples, turnOf};
 use super::items::take_items;
 use super::items::take_samples;
@@ -42,23 +42,29 @@ pub enum Said {
     Help,
 }
 
-// What is said, and the module after the step. A hold says an interval's number, its serial, its counts of clipped samples and both alarms,
-// `cards` the serials in force and waiting.
-pub struct Turn {
+// What is said. A hold says an interval's number, its serial, its counts of clipped samples and both alarms, `cards` the serials in force and
+// waiting.
+pub struct Told {
     pub said: Said,
     pub number: u32,
     pub serial: Serial,
     pub clips: Clips,
     pub alarms: Alarms,
     pub waiting: Serial,
+}
+
+// What is said, and the module after the step.
+pub struct Turn {
+    pub told: Told,
     pub after: Module,
 }
 
-fn plain(said: Said, m: Module) -> Turn
-    ensures { λ r. ⌜ r ≡ plainly said m ⌝ }
+// Without a number, serials, counts and alarms.
+fn bare(said: Said) -> Told
+    ensures { λ r. ⌜ r ≡ barely said ⌝ }
 {
     let none = Serial::none();
-    Turn {
+    Told {
         said,
         number: 0,
         serial: none,
@@ -68,8 +74,14 @@ fn plain(said: Said, m: Module) -> Turn
             surge: false,
         },
         waiting: none,
-        after: m,
     }
+}
+
+fn plain(said: Said, m: Module) -> Turn
+    ensures { λ r. ⌜ r ≡ plainly said m ⌝ }
+{
+    let told = bare(said);
+    Turn { told, after: m }
 }
 
 fn unread(m: Module, why: Why) -> Turn
@@ -115,15 +127,15 @@ fn held(m: Module, port: i64) -> Turn
     let after = h.after;
     let said = said_of_hold(answer);
     let none = Serial::none();
-    Turn {
+    let told = Told {
         said,
         number: h.number,
         serial,
         clips,
         alarms,
         waiting: none,
-        after,
-    }
+    };
+    Turn { told, after }
 }
 
 fn said_of_read(a: Reading) -> Said
@@ -150,18 +162,10 @@ fn shown(m: Module) -> Turn
     let c = m.cards();
     let force = c.force;
     let waiting = c.waiting;
-    Turn {
-        said: Said::Cards,
-        number: 0,
-        serial: force,
-        clips: Clips { v: 0, i: 0 },
-        alarms: Alarms {
-            sag: false,
-            surge: false,
-        },
-        waiting,
-        after: m,
-    }
+    let mut told = bare(Said::Cards);
+    told.serial = force;
+    told.waiting = waiting;
+    Turn { told, after: m }
 }
 
 // A refused start keeps the module that runs.

@@ -1,10 +1,10 @@
--- `put_answer` puts what a turn says.
+-- `put_answer` puts what is said.
 use native.Mathlib.Omega.{arith}
 use mir.Syntax.{w64}
 use mir.Val.{SFits}
 use mir.Facts.{toZ-ofZ}
 use Rattle.serial.specs.Ascii.{ascii}
-use Rattle.console.specs.Answers.{okLine, saidText, answerText}
+use Rattle.console.specs.Answers.{okLine, saidText, toldText}
 use borrow.Author.Needs.{needs}
 use Rattle.console.proofs.answers.put_answer.Statement.{statement}
 use Rattle.console.proofs.answers.put_answer.Tie as tie
@@ -61,49 +61,49 @@ same-length : tie.Need-same-length
 same-length c = search needs
 
 returns : tie.Need-returns
-unfolding answerText saidText
+unfolding toldText saidText
 returns c = (rw (c .before .before .before .before .before .said .given .1) (c .before .before .unread-line .ensures .0), omega (arith, c .before .before .unread-line .ensures .1))
 
 same-length-2 : tie.Need-same-length-2
 same-length-2 c = search needs
 
 returns-2 : tie.Need-returns-2
-unfolding answerText saidText
+unfolding toldText saidText
 returns-2 c = (rw (c .before .before .before .before .before .said2 .given .1) (c .before .before .refused-line .ensures .0), omega (arith, c .before .before .refused-line .ensures .1))
 
 same-length-3 : tie.Need-same-length-3
 same-length-3 c = search needs
 
 returns-3 : tie.Need-returns-3
-unfolding answerText saidText okLine ascii
+unfolding toldText saidText okLine ascii
 returns-3 c = (rw (c .before .before .before .before .before .enum-told .given .1) (c .before .before .put .ensures .0), omega (arith, c .before .before .put .ensures .1))
 
 same-length-4 : tie.Need-same-length-4
 same-length-4 c = search needs
 
 returns-4 : tie.Need-returns-4
-unfolding answerText saidText
+unfolding toldText saidText
 returns-4 c = (rw (c .before .before .before .before .before .said3 .given .1) (rw (toZ-ofZ (fits (c .before .before .before .before))) at (c .before .before .value-line .ensures .0)), omega (arith, c .before .before .value-line .ensures .1))
 
 same-length-5 : tie.Need-same-length-5
 same-length-5 c = search needs
 
 returns-5 : tie.Need-returns-5
-unfolding answerText saidText
+unfolding toldText saidText
 returns-5 c = (rw (c .before .before .before .before .enum-told2 .given .1) (c .before .before .held-line .ensures .0), omega (arith, c .before .before .held-line .ensures .1))
 
 same-length-6 : tie.Need-same-length-6
 same-length-6 c = search needs
 
 returns-6 : tie.Need-returns-6
-unfolding answerText saidText
+unfolding toldText saidText
 returns-6 c = (rw (c .before .before .before .before .enum-told3 .given .1) (c .before .before .cards-line .ensures .0), omega (arith, c .before .before .cards-line .ensures .1))
 
 same-length-7 : tie.Need-same-length-7
 same-length-7 c = search needs
 
 returns-7 : tie.Need-returns-7
-unfolding answerText saidText
+unfolding toldText saidText
 returns-7 c = (rw (c .before .before .before .before .enum-told4 .given .1) (c .before .before .help-lines .ensures .0), omega (arith, c .before .before .help-lines .ensures .1))
 
 pub put-answer-spec : {M : Type 1} → statement M

@@ -51,7 +51,7 @@ take-line-requires : tie.Need-take-line-requires
 take-line-requires c κs = search needs
 
 put-answer-requires : tie.Need-put-answer-requires
-put-answer-requires c κs = omega (arith, c .before .before .before .before .before .before .before .before .before .before .before .before .before .before .pre .used)
+put-answer-requires c κs = omega (arith, c .before .before .before .before .before .before .before .before .before .before .before .before .before .before .before .pre .used)
 
 same-length : tie.Need-same-length
 same-length c = search needs
@@ -64,12 +64,14 @@ same-length-3 c = search needs
 
 returns-2 : tie.Need-returns-2
 returns-2 c =
-    let s = c .before .before .before .before .before .before .before .before .before .before .before .before .before .before .before .before .before .before in
-    let l = c .before .before .before .before .before .before .before in
+    let s = c .before .before .before .before .before .before .before .before .before .before .before .before .before .before .before .before .before .before .before in
+    let l = c .before .before .before .before .before .before .before .before in
+    let line = now (s .args .line) in
     let out = now (s .args .out) in
     let p = c .before .before .before .put-answer .ensures in
     let z = p .0 ∙ ap (λ (u : Turn). take (s .args .s .used) out ++ answerText u) (turn l) in (
-      (λ j. record { state = turn l j .after; kept = take 0 (now (c .before .before .before .before .before .before .before .before .before .before .before .before .before .before .before .before .before .before .args .line)); said = z j }) ∙ sym (ends-answered (talkOf (s .args .s) (now (c .before .before .before .before .before .before .before .before .before .before .before .before .before .before .before .before .before .before .args .line)) out) (sym (quiet (c .before .before .before .before .before .before .before .before .before .before .before .before)) ∙ c .before .before .before .before .before .before .before .before .before .before .before .if1 .left)),
+      (λ j. record { state = turn l j .after; kept = take 0 line; said = z j })
+          ∙ sym (ends-answered (talkOf (s .args .s) line out) (sym (quiet (c .before .before .before .before .before .before .before .before .before .before .before .before .before)) ∙ c .before .before .before .before .before .before .before .before .before .before .before .before .if1 .left)),
       (refl, p .1),
     )
 
