@@ -38,11 +38,22 @@ struct said {
     struct held held;
 };
 
+/* Settings that the line leaves out are at their lowest. */
+static struct alarm_settings alarm_settings_of(const struct step *step)
+{
+    int64_t setting[4] = {1, 0, 0, 0};
+
+    for (size_t k = 2 + SLOTS; k < step->numbers; k++)
+        setting[k - 2 - SLOTS] = step->number[k];
+    return (struct alarm_settings){setting[0], setting[1], setting[2], setting[3]};
+}
+
 /* A refused start keeps the module. */
-static int start(struct module *module, const int64_t *number)
+static int start(struct module *module, const struct step *step)
 {
     static struct module fresh;
-    int refusal = module_start(&fresh, number[0], number[1], number + 2);
+    const struct alarm_settings settings = alarm_settings_of(step);
+    int refusal = module_start(&fresh, step->number[0], step->number[1], step->number + 2, &settings);
 
     if (refusal == 0)
         *module = fresh;
@@ -55,7 +66,7 @@ static int take_step(struct module *module, const struct step *step, struct said
 
     switch (step->kind) {
     case START:
-        return start(module, number);
+        return start(module, step);
     case OPEN:
         return module_open(module, number[0], step->text, step->text_length);
     case WRITE:
@@ -70,6 +81,8 @@ static int take_step(struct module *module, const struct step *step, struct said
         return module_read(module, number[0], number[1], &said->value);
     case BLOCK:
         return module_block(module, step->voltage, step->voltages, step->current, step->currents);
+    case RESET:
+        return module_reset(module, number[0]);
     case CARDS:
     case HELP:
         break;
@@ -96,6 +109,8 @@ static void put_held(const struct held *held)
     printf(" %" PRIu32, held->number);
     put_serial(&held->serial);
     printf(" %" PRId64 " %" PRId64, held->clipped.voltages, held->clipped.currents);
+    fputs(held->alarms & SAG ? " SAG" : " -", stdout);
+    fputs(held->alarms & SURGE ? " SURGE" : " -", stdout);
 }
 
 static void put_accepted(const struct module *module, enum kind kind, const struct said *said)
@@ -132,7 +147,7 @@ int main(void)
     static struct line line;
     static struct step step;
 
-    module_start(&module, 0, 0, nothing); /* refused: the module of a refused start */
+    module_start(&module, 0, 0, nothing, &(struct alarm_settings){0}); /* refused: the module of a refused start */
     while (next_line(&line)) {
         enum unread unread = TOO_LONG;
 

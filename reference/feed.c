@@ -35,9 +35,10 @@ static inline int64_t mixed(int64_t phase, int64_t now, int64_t before)
 
 /* Samples of one interval, so of one card. `before` is the raw current that came before them: it is corrected for PHASE
    alone and not counted. A clipped sample is counted by adding its test, since a branch would be mispredicted where
-   peaks are clipped; both counts share one register, of which the loop has too few. */
+   peaks are clipped; both counts share one register, of which the loop has too few. For the same reason the voltages'
+   squares are only put down here, for the alarms. */
 static void accumulate(struct interval *interval, const struct card *card, int64_t before, const int32_t *voltage,
-                       const int32_t *current, size_t count)
+                       const int32_t *current, size_t count, int64_t *square)
 {
     const int64_t voffs = card->field[VOFFS], vgain = card->field[VGAIN];
     const int64_t ioffs = card->field[IOFFS], igain = card->field[IGAIN];
@@ -56,6 +57,7 @@ static void accumulate(struct interval *interval, const struct card *card, int64
         last = amps.value;
         both += volts.outside;
         both += (uint64_t)amps.outside << 32;
+        square[k] = v * v;
         sum.voltage_squares += v * v;
         sum.current_squares += i * i;
         sum.products += v * i;
@@ -82,13 +84,15 @@ static size_t take_part(struct module *module, const int32_t *voltage, const int
 {
     size_t wanted = (size_t)(module->samples - module->interval.samples);
     size_t count = left < wanted ? left : wanted;
+    int64_t *square = alarms_room(&module->alarms, count);
 
     take_waiting_card(module);
     if (!module->has_previous) {
         module->previous = current[0];
         module->has_previous = true;
     }
-    accumulate(&module->interval, &module->card, module->previous, voltage, current, count);
+    accumulate(&module->interval, &module->card, module->previous, voltage, current, count, square);
+    alarms_follow(&module->alarms, count);
     module->previous = current[count - 1];
     if (module->interval.samples == module->samples)
         interval_close(module);

@@ -16,8 +16,8 @@ struct item {
     size_t length;
 };
 
-/* A step's word, and its items: n a number, f a field, w a register by its word address, b by its byte address, t text.
- */
+/* A step's word, and its items: n a number, o one that may be left out with all behind it, f a field, w a register by
+   its word address, b by its byte address, t text. */
 struct form {
     const char *word;
     enum kind kind;
@@ -106,7 +106,7 @@ static enum unread value_of(struct item item, char what, int64_t *number)
 {
     if (is_number(item, number))
         return NONE;
-    if (what == 'n')
+    if (what == 'n' || what == 'o')
         return NO_NUMBER;
     if (what == 'f')
         *number = field_named(item.at, item.length);
@@ -129,13 +129,16 @@ static enum unread take_items(struct step *step, struct rest *rest, const char *
 {
     enum unread unread = NONE;
 
+    step->numbers = 0;
     for (size_t k = 0; items[k] != '\0' && unread == NONE; k++) {
+        if (items[k] == 'o' && at_end(rest))
+            break;
         if (!take_byte(rest, ' '))
             return ITEM_MISSING;
         if (items[k] == 't')
             take_text(step, rest);
         else
-            unread = value_of(take_item(rest), items[k], &step->number[k]);
+            unread = value_of(take_item(rest), items[k], &step->number[step->numbers++]);
     }
     return unread != NONE || at_end(rest) ? unread : MORE_ITEMS;
 }
@@ -181,9 +184,17 @@ static enum unread take_block(struct step *step, struct rest *rest)
 enum unread line_parse(struct step *step, const unsigned char *line, size_t length)
 {
     static const struct form form[] = {
-        {"start", START, "nnwwwwww"}, {"open", OPEN, "nt"}, {"write", WRITE, "nfn"}, {"commit", COMMIT, "n"},
-        {"drop", DROP, "n"},          {"hold", HOLD, "n"},  {"read", READ, "nb"},    {"block", BLOCK, ""},
-        {"cards", CARDS, ""},         {"help", HELP, ""},
+        {"start", START, "nnwwwwwwoooo"},
+        {"open", OPEN, "nt"},
+        {"write", WRITE, "nfn"},
+        {"commit", COMMIT, "n"},
+        {"drop", DROP, "n"},
+        {"hold", HOLD, "n"},
+        {"read", READ, "nb"},
+        {"block", BLOCK, ""},
+        {"reset", RESET, "n"},
+        {"cards", CARDS, ""},
+        {"help", HELP, ""},
     };
     const size_t forms = sizeof form / sizeof form[0];
     struct rest rest = {line, line + length};

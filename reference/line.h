@@ -8,14 +8,15 @@
 
 #include "words.h"
 
-enum { LINE_MOST = 131071, SIDE_MOST = 8192, NUMBERS_MOST = 8 };
+enum { LINE_MOST = 131071, SIDE_MOST = 8192, NUMBERS_MOST = 12 };
 
-enum kind { START, OPEN, WRITE, COMMIT, DROP, HOLD, READ, BLOCK, CARDS, HELP };
+enum kind { START, OPEN, WRITE, COMMIT, DROP, HOLD, READ, BLOCK, RESET, CARDS, HELP };
 
 struct step {
     enum kind kind;
     int64_t number[NUMBERS_MOST]; /* in the line's order; a name has become its number */
-    const unsigned char *text;    /* of an open: within the line */
+    size_t numbers;
+    const unsigned char *text; /* of an open: within the line */
     size_t text_length;
     int32_t voltage[SIDE_MOST], current[SIDE_MOST];
     size_t voltages, currents;

@@ -262,6 +262,8 @@ int main(int argc, char **argv)
         put_no_load(&belief);
     if (chance(80))
         put_clipped();
+    if (chance(80))
+        put_alarms();
     put_last_line();
     return fflush(stdout) == 0 ? 0 : 1;
 }

@@ -1,18 +1,22 @@
-/* module.c: start and the steps at the ports, each with its checks in the order of document 01. */
+/* module.c: start, the steps at the ports and the reset, each with its checks in the order of documents 01 and 02. */
 #include "module.h"
 
 #include <string.h>
 
 static void become_fresh(struct module *module)
 {
+    static const struct alarm_settings lowest = {.half_cycle = 1};
+
     memset(module, 0, sizeof *module);
     module->samples = 1;
     module->bucket = 1;
     for (size_t k = 0; k < SLOTS; k++)
         module->slot[k] = OFF;
+    alarms_start(&module->alarms, &lowest);
 }
 
-int module_start(struct module *module, int64_t samples, int64_t bucket, const int64_t words[SLOTS])
+int module_start(struct module *module, int64_t samples, int64_t bucket, const int64_t words[SLOTS],
+                 const struct alarm_settings *settings)
 {
     become_fresh(module);
     if (samples < 1 || samples > 4096 || bucket < 1 || bucket > (INT64_C(1) << 48) - 1)
@@ -20,10 +24,13 @@ int module_start(struct module *module, int64_t samples, int64_t bucket, const i
     for (size_t k = 0; k < SLOTS; k++)
         if (slot_from_word(words[k]) == NO_SUCH)
             return 7;
+    if (!alarm_settings_allowed(settings))
+        return 7;
     module->samples = samples;
     module->bucket = bucket;
     for (size_t k = 0; k < SLOTS; k++)
         module->slot[k] = slot_from_word(words[k]);
+    alarms_start(&module->alarms, settings);
     return 0;
 }
 
@@ -107,7 +114,7 @@ int module_hold(struct module *module, int64_t port, struct held *held)
         return 14;
     module->port[port].hold = *closed;
     module->port[port].held = true;
-    *held = (struct held){closed->number, closed->serial, closed->clipped};
+    *held = (struct held){closed->number, closed->serial, closed->clipped, module->alarms.set};
     return 0;
 }
 
@@ -118,4 +125,12 @@ int module_read(const struct module *module, int64_t port, int64_t byte_address,
     if (!module->port[port].held)
         return 15;
     return register_read(&module->port[port].hold.registers, module->slot, byte_address, value);
+}
+
+int module_reset(struct module *module, int64_t mask)
+{
+    if (!alarm_mask_allowed(mask))
+        return 12;
+    module->alarms.set &= ~mask;
+    return 0;
 }

@@ -1,4 +1,5 @@
-/* module.h: the module: its settings, its cards, the running interval, the last closed one and both ports. */
+/* module.h: the module: its settings, its cards, the running interval and the last closed one, alarms and both ports.
+ */
 #ifndef MODULE_H
 #define MODULE_H
 
@@ -6,6 +7,7 @@
 #include <stddef.h>
 #include <stdint.h>
 
+#include "alarms.h"
 #include "card.h"
 #include "registers.h"
 
@@ -42,6 +44,7 @@ struct held {
     uint32_t number;
     struct serial serial;
     struct clippings clipped;
+    int64_t alarms; /* those that are set at the hold, not at the close */
 };
 
 /* A port: the card being written there, and what is held there. */
@@ -63,12 +66,14 @@ struct module {
     bool some_closed;
     struct reading closed; /* the last closed interval; its number is 0 before the first */
     struct energy positive, negative;
+    struct alarms alarms;
     struct port port[PORTS];
 };
 
 /* Each step answers 0 or the number of its refusal; a refused one changes nothing, except that
-   a refused start leaves a module with N 1, B 1 and every slot off. */
-int module_start(struct module *module, int64_t samples, int64_t bucket, const int64_t words[SLOTS]);
+   a refused start leaves a module with N 1, B 1, every slot off, W 1, no thresholds and nothing sticky. */
+int module_start(struct module *module, int64_t samples, int64_t bucket, const int64_t words[SLOTS],
+                 const struct alarm_settings *settings);
 int module_open(struct module *module, int64_t port, const unsigned char *text, size_t length);
 int module_write(struct module *module, int64_t port, int64_t field, int64_t value);
 int module_commit(struct module *module, int64_t port);
@@ -77,6 +82,7 @@ int module_hold(struct module *module, int64_t port, struct held *held);
 int module_read(const struct module *module, int64_t port, int64_t byte_address, int64_t *value);
 int module_block(struct module *module, const int32_t *voltage, size_t voltages, const int32_t *current,
                  size_t currents);
+int module_reset(struct module *module, int64_t mask);
 
 /* Closes the running interval, which has its N samples. */
 void interval_close(struct module *module);

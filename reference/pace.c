@@ -1,6 +1,6 @@
-/* pace.c: the program reference-pace: feeds one block of 4,096 samples as often as its argument says (100 if none)
-   and prints the seven tracked registers, both counts, the interval number, and how many voltages and currents of that
-   interval were clipped. */
+/* pace.c: the program reference-pace [BLOCKS [W]]: feeds one block of 4,096 samples so often (100 if not said), with W
+   samples in half a cycle (40 if not said), and prints the seven tracked registers, both counts, the interval number,
+   how many voltages and currents of that interval were clipped, and both alarms. */
 #include <inttypes.h>
 #include <stdio.h>
 #include <stdlib.h>
@@ -26,11 +26,12 @@ static void make_block(void)
 }
 
 /* 0, or the first refusal. */
-static int prepare(struct module *module)
+static int prepare(struct module *module, int64_t half_cycle)
 {
     static const int64_t slots_off[SLOTS];
     static const int64_t value[FIELDS] = {17, -5, 2200000, 2150000, 1000, 3, 10, 2};
-    int refusal = module_start(module, 400, INT64_C(0x0001AFC8BB4C), slots_off);
+    const struct alarm_settings settings = {half_cycle, 4000000, 6000000, SAG};
+    int refusal = module_start(module, 400, INT64_C(0x0001AFC8BB4C), slots_off, &settings);
 
     if (refusal == 0)
         refusal = module_open(module, 0, (const unsigned char *)"0417", 4);
@@ -52,7 +53,8 @@ static int print_registers(struct module *module)
         printf("%" PRId64 " ", value);
     }
     if (refusal == 0)
-        printf("%" PRIu32 " %" PRId64 " %" PRId64 "\n", held.number, held.clipped.voltages, held.clipped.currents);
+        printf("%" PRIu32 " %" PRId64 " %" PRId64 " %d %d\n", held.number, held.clipped.voltages, held.clipped.currents,
+               (held.alarms & SAG) != 0, (held.alarms & SURGE) != 0);
     return refusal;
 }
 
@@ -60,7 +62,7 @@ int main(int argc, char **argv)
 {
     static struct module module;
     long blocks = argc > 1 ? strtol(argv[1], NULL, 10) : 100;
-    int refusal = prepare(&module);
+    int refusal = prepare(&module, argc > 2 ? strtol(argv[2], NULL, 10) : 40);
 
     make_block();
     for (long k = 0; k < blocks && refusal == 0; k++)

@@ -72,6 +72,22 @@ void put_no_load(struct belief *belief);
 /* Samples around the ends of the 24-bit range, on a fresh module (script-clipped.c). */
 void put_clipped(void);
 
+/* The start settings of sag and surge. */
+struct watch {
+    int64_t half_cycle, sag, surge, sticky;
+};
+
+/* Lines about sag and surge (script-alarm-lines.c). */
+int64_t good_mask(void);
+void put_watch_start(int64_t n, const struct watch *watch);
+void put_refused_watch_start(int64_t n, const struct watch *watch);
+void put_reset(int64_t mask);
+void put_refused_reset(void);
+void put_odd_watch(void);
+
+/* Sums of squares around the levels of sag and surge, on fresh modules (script-alarms.c). */
+void put_alarms(void);
+
 /* Names that are none, or stand in the wrong place (script-names.c). */
 void put_odd_name(void);
 

@@ -31,7 +31,7 @@ const char *refusal_words(int refusal)
         [9] = "the port is open already",
         [10] = "the port is not open",
         [11] = "no such field",
-        [12] = "a value outside its field's range",
+        [12] = "a value outside its range",
         [13] = "a field not written",
         [14] = "no interval has closed yet",
         [15] = "nothing is held on this port",
@@ -44,15 +44,18 @@ const char *refusal_words(int refusal)
 }
 
 const char help_lines[] =
-    "# start N B SLOT SLOT SLOT SLOT SLOT SLOT: N samples an interval, energy buckets of B, six registers to track or "
-    "0\n"
+    "# start N B SLOT SLOT SLOT SLOT SLOT SLOT [W [VSAG [VSURGE [STICKY]]]]: N samples an interval, energy buckets of "
+    "B, six registers to track or 0\n"
+    "#   W samples in half a cycle, sag and surge levels or 0 (off), and the alarms that stay set: a mask as of reset; "
+    "left out: 1 0 0 0\n"
     "# open PORT SERIAL: begins a card; ports are 0 and 1\n"
     "# write PORT FIELD VALUE: VOFFS IOFFS VGAIN IGAIN PHASE IRMSOFFS SQUELCH POFFS, or 1 to 8\n"
     "# commit PORT: the card is whole and waits for the next interval\n"
     "# drop PORT: the card is forgotten\n"
     "# block VOLTAGES | CURRENTS: samples, at most 4,096 a side\n"
-    "# hold PORT: keeps the last closed interval; answers its number, its card's serial, and how many of its voltages "
-    "and currents were clipped\n"
+    "# reset MASK: clears alarms: 0x200000 sag, 0x200 surge, 0x200200 both\n"
+    "# hold PORT: keeps the last closed interval; answers its number, its card's serial, how many of its voltages and "
+    "currents were clipped, and both alarms as they are now\n"
     "# read PORT REGISTER: of what is held; a name (VA_RMS, WATT_A, PA_POS_CNT, MIN1 ..) or a byte address\n"
     "# cards: the serials of the card in force and of the one that waits\n"
     "# help: these lines\n"

@@ -6,6 +6,8 @@ import sys
 from itertools import groupby
 from pathlib import Path
 
+from alarms import Alarms, named
+
 ROOT = Path(__file__).resolve().parent.parent
 
 FIELDS = ("VOFFS", "IOFFS", "VGAIN", "IGAIN", "PHASE", "IRMSOFFS", "SQUELCH", "POFFS")
@@ -15,8 +17,8 @@ REGISTERS = {0x2B: "VA_RMS", 0x3E: "IA_RMS", 0x46: "IA_PEAK", 0x4B: "WATT_A", 0x
 FIELD_NAMES = {name: k for k, name in enumerate(FIELDS, 1)}
 WORDS = {name: word for word, name in REGISTERS.items()}
 BYTES = {name: 3 * word for word, name in REGISTERS.items()}
-STEPS = ("start", "open", "write", "commit", "drop", "hold", "read", "block", "cards")
-NO_PORT = ("start", "block", "cards")
+STEPS = ("start", "open", "write", "commit", "drop", "hold", "read", "block", "reset", "cards")
+NO_PORT = ("start", "block", "reset", "cards")
 LANES = {"module": "the module", "fitter 0": "fitter, port 0", "fitter 1": "fitter, port 1",
          "reader 0": "reader, port 0", "reader 1": "reader, port 1"}
 # A colour for lines and text, and a light one for areas; cards take them in turn.
@@ -40,9 +42,18 @@ def number(word, names=()):
     return int(found[3], 16) if found[3] else int(found[1] + found[2])
 
 
+def corrected(raw, offset, gain):
+    """A sample as a card makes it, before clipping."""
+    return (raw - offset) * gain >> 21
+
+
+def clipped(value):
+    return max(-2**23, min(2**23 - 1, value))
+
+
 def outside(raws, offset, gain):
     """How many of the samples are outside the 24-bit range before clipping."""
-    return sum(not -2**23 <= (raw - offset) * gain >> 21 < 2**23 for raw in raws)
+    return sum(value != clipped(value) for value in (corrected(raw, offset, gain) for raw in raws))
 
 
 def several(count, what):
@@ -78,6 +89,9 @@ class Session:
 
     def __init__(self, steps):
         self.volts, self.amps, self.intervals, self.all_cards, self.boxes, self.starts = [], [], [], [], [], []
+        self.alarmed = []       # for each sample, the alarms that the half cycle gives after it and those that are set
+        self.resets = []        # where alarms were cleared, and which
+        self.levels = False     # whether a start had a level
         self.running = None     # where the interval that runs began
         self.desks = {}
         self.begin(1, 0)
@@ -91,14 +105,14 @@ class Session:
                 getattr(self, words[0])(*ports, *words[1 + len(ports):])
         self.begin(1, len(self.volts))
 
-    def begin(self, n, at):
+    def begin(self, n, at, *settings):
         """A fresh module; an interval that runs is cut off."""
         if self.running is not None:
             self.intervals.append((self.running, at, None, self.force))
         self.say_written()
         self.n, self.origin, self.since = n, at, len(self.boxes)
         self.waiting = self.force = self.running = None
-        self.count, self.desks, self.held, self.closed = 0, {}, {}, None
+        self.count, self.desks, self.held, self.closed, self.alarms = 0, {}, {}, None, Alarms(*settings)
 
     def last_box(self, lane):
         """The lane's last box, if it stands where the session is now."""
@@ -129,16 +143,19 @@ class Session:
             self.say_no(lane, said)
         return not self.ok
 
-    def start(self, n, bucket, *slots):
-        at = len(self.volts)
+    def start(self, n, bucket, *items):
+        at, slots, settings = len(self.volts), items[:6], items[6:]
         if self.refused("module", "start"):
             return
         self.starts.append(at)
-        self.begin(number(n), at)
+        self.begin(number(n), at, *map(number, settings))
         self.say("module", f"start: {number(n):,} samples an interval")
         self.say("module", f"bucket {number(bucket):,}")
         tracked = [f"{k + 1} {REGISTERS[number(word, WORDS)]}" for k, word in enumerate(slots) if number(word, WORDS)]
         self.say("module", f"tracks in slot {', '.join(tracked)}" if tracked else "no slot tracks")
+        self.levels = self.levels or self.alarms.on
+        for line in self.alarms.levels():
+            self.say("module", line)
 
     def open(self, port, *text):
         lane, serial = f"fitter {port}", " ".join(text)
@@ -195,15 +212,20 @@ class Session:
             return
         self.say_written()
         for v, i in zip(words[:bar], words[bar + 1:]):
-            if self.running is None:
-                self.first_sample()
-            self.volts.append(number(v))
-            self.amps.append(number(i))
-            if len(self.volts) - self.running == self.n:
-                self.count += 1
-                self.closed = (self.running, len(self.volts), self.count, self.force)
-                self.intervals.append(self.closed)
-                self.running = None
+            self.sample(number(v), number(i))
+
+    def sample(self, volts, amps):
+        if self.running is None:
+            self.first_sample()
+        self.volts.append(volts)
+        self.amps.append(amps)
+        self.alarms.sample(clipped(corrected(volts, self.force.fields[1], self.force.fields[3])))
+        self.alarmed.append((self.alarms.met, self.alarms.set))
+        if len(self.volts) - self.running == self.n:
+            self.count += 1
+            self.closed = (self.running, len(self.volts), self.count, self.force)
+            self.intervals.append(self.closed)
+            self.running = None
 
     def first_sample(self):
         self.running = at = len(self.volts)
@@ -213,6 +235,14 @@ class Session:
             self.force.first, self.force.end = at, f"counts from sample {at - self.origin + 1} on"
             self.force.colour = COLOURS[sum(card.first is not None for card in self.all_cards[:-1]) % len(COLOURS)]
             self.force.name += f" (no. {same + 1})" if same else ""
+
+    def reset(self, mask):
+        if self.refused("module", f"reset {mask[:28]}"):
+            return
+        mask = number(mask)
+        self.resets.append((len(self.volts), self.alarms.set & mask))
+        self.alarms.reset(mask)
+        self.say("module", f"reset: {named(mask)}")
 
     def cards(self):
         force, waiting = (card.serial if card else "-" for card in (self.force, self.waiting))
@@ -229,14 +259,16 @@ class Session:
             raise Wrong(f"{self.line}: answered {self.answer!r}, but by the steps before it no interval has closed")
         voltages = outside(self.volts[first:end], card.fields[1], card.fields[3])
         currents = outside(self.amps[first:end], card.fields[2], card.fields[4])
-        clipped = f"{several(voltages, 'voltage')}, {several(currents, 'current')}"
-        if self.answer != f"ok {count} {card.serial} {voltages} {currents}":
+        counts = f"{several(voltages, 'voltage')}, {several(currents, 'current')}"
+        if self.answer != f"ok {count} {card.serial} {voltages} {currents} {self.alarms.answer()}":
             raise Wrong(f"{self.line}: answered {self.answer!r}, but by the steps before it the last interval is {count} with card "
-                        f"{card.serial}, clipped: {clipped}")
+                        f"{card.serial}, clipped: {counts}; alarms set: {named(self.alarms.set)}")
         self.held[port] = self.closed
         self.say(f"reader {port}", f"hold: interval {count}, card {card.serial}", card.colour[0], card)
         if voltages or currents:
-            self.say(f"reader {port}", f"clipped: {clipped}", INK, card)
+            self.say(f"reader {port}", f"clipped: {counts}", INK, card)
+        if self.alarms.on:
+            self.say(f"reader {port}", f"set at the hold: {named(self.alarms.set)}", INK, card)
 
     def read(self, port, address):
         lane = f"reader {port}"

@@ -19,7 +19,7 @@ use Rattle.sample.specs.Sample.{every24}
 use Rattle.sample.specs.Sums.{Sample, samplesIn}
 use Rattle.alarm.specs.declared.Watch.{Watch}
 use Rattle.alarm.specs.Alarms.{both, clearing, answered as watchAnswered, resetOf as watchReset}
-use Rattle.alarm.proofs.Tests.{good-yes}
+use Rattle.halfcycle.proofs.Tests.{good-yes}
 use Rattle.meter.specs.Core.{core, samplesOf, resetWatch, meterOf, meteringOf}
 use Rattle.meter.specs.Blocks.{waitOf, nextCard, blockDone, answered, blockOf as meterBlock, voltsIn, voltsOf}
 use Rattle.meter.proofs.Agreement.{block-passes}

@@ -31,9 +31,9 @@ use Rattle.alarm.specs.declared.Limits.{Limits}
 use Rattle.alarm.specs.Masks.{onlyAlarms, namedBy}
 use Rattle.alarm.specs.Alarms.{Watching, both, seenWith, clearedOf, clearing}
 use Rattle.alarm.specs.Starting.{askedOk, limitsIn, freshWatch, lowestLimits, lowestWatch, noVolts}
-use Rattle.alarm.specs.Inside.{Good}
-use Rattle.alarm.proofs.Parts.{good-more}
-use Rattle.alarm.proofs.Starts.{asked-good, lowest-good, cleared-good}
+use Rattle.halfcycle.specs.Inside.{Good}
+use Rattle.halfcycle.proofs.Parts.{good-more}
+use Rattle.halfcycle.proofs.Fresh.{asked-good, lowest-good, cleared-good}
 use Rattle.meter.specs.Core.{core, samplesOf, resetWatch, keptOf}
 use Rattle.meter.specs.Starting.{numbersOk, freshOf, lowestMeter}
 use Rattle.steps.specs.declared.Answer.the-variants.{Done, Refused}

@@ -297,13 +297,13 @@ impl Module {
         let m = self.meter;
         let a = self.watch;
         let r = m.block(a, &mut self.volts, v, i);
-        let answer = r.answer;
+        let said = r.answer;
         let after = r.after;
         let watch = r.watch;
         self.meter = after;
         self.watch = watch;
         Stepped {
-            answer,
+            answer: said,
             after: self,
         }
     }

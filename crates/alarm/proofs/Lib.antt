@@ -1,11 +1,3 @@
--- Laws of the window and the alarms.
-pub mod Windows
-pub mod Sums
-pub mod Comparing
-pub mod Parts
-pub mod Tests
+-- Laws of the start.
 pub mod Starts
-pub mod Rings
-pub mod Standing
-pub mod History
 pub mod Decided

@@ -1,26 +1,13 @@
--- What the test of a start's numbers says, and that a fresh watch is good.
-use Prim.Native.Nat.{ℕ, zero, suc, _≤_}
-use mathlib.Core.Path.{_≡_, refl, sym}
+-- What the test of a start's numbers says.
+use Prim.Native.Nat.{ℕ, _≤_}
+use mathlib.Core.Path.{_≡_, sym}
 use mathlib.Core.Bool.{true, true≢false}
-use mathlib.Core.List.{List}
-use native.Mathlib.Omega.{arith}
-use lib.Dec.{T, lit≤}
+use lib.Dec.{T}
 use lib.IntN.{ℤ, pos, negsuc, natAbs}
-use lib.ListN.{replicate, length-replicate}
 use lib.Signed.{leZ, nonNeg}
 use borrow.Author.Tests.{leb-true}
 use Rattle.sample.proofs.Tests.{both-of}
-use Rattle.alarm.specs.declared.Asked.{Asked}
-use Rattle.range.specs.Range.{in24}
-use Rattle.sample.specs.Sample.{every24}
-use Rattle.alarm.specs.declared.Alarms.{Alarms}
-use Rattle.alarm.specs.declared.Limits.{Limits}
-use Rattle.alarm.specs.declared.Watch.{Watch}
-use Rattle.alarm.specs.Masks.{onlyAlarms}
-use Rattle.alarm.specs.Alarms.{clearedOf}
-use Rattle.alarm.specs.Starting.{numbersOk, askedOk, limitsOf, limitsIn, freshWatch, lowestLimits, lowestWatch, noVolts}
-use Rattle.alarm.specs.Passing.{squares}
-use Rattle.alarm.specs.Inside.{Ranged, Good}
+use Rattle.alarm.specs.Starting.{numbersOk}
 
 -- a number from one end to the other, neither below 0
 abbrev Between : ℕ → ℕ → ℤ → Type 0
@@ -48,36 +35,3 @@ numbers-in w vsag vsurge e =
       vsag = between 0 8388607 vsag (c2 .1) (c3 .1);
       vsurge = between 0 8388607 vsurge (c4 .1) (c5 .1);
     }
-
--- ---- a fresh watch is good
-
-every-zero : (n : ℕ) → every24 (replicate n (pos 0)) ≡ true
-unfolding every24 in24
-every-zero zero = refl
-every-zero (suc n) = every-zero n
-
-squares-zero : (n : ℕ) → squares (replicate n (pos 0)) ≡ 0
-unfolding squares
-squares-zero zero = refl
-squares-zero (suc n) = omega (arith, squares-zero n)
-
-pub fresh-good : (t : Limits) → Ranged t → 1 ≤ t .w → Good (freshWatch t) noVolts
-fresh-good t h l = record {
-  ranged = h;
-  seen = omega arith;
-  kept = record { w-most = h .w; at-less = l; long = length-replicate 512 (pos 0); all24 = every-zero 512; sum-is = sym (squares-zero 512) };
-}
-
-pub lowest-good : Good lowestWatch noVolts
-lowest-good = fresh-good lowestLimits (record { w = lit≤ tt; vsag = lit≤ tt; vsurge = lit≤ tt }) (lit≤ tt)
-
-pub asked-good : (q : Asked) → askedOk q ≡ true → Good (freshWatch (limitsIn q)) noVolts
-unfolding askedOk limitsOf
-asked-good q e =
-    let h = numbers-in (q .w) (q .vsag) (q .vsurge) (both-of (numbersOk (q .w) (q .vsag) (q .vsurge)) (onlyAlarms (q .sticky)) e .0) in
-    fresh-good (limitsIn q) (record { w = h .w .2; vsag = h .vsag .2; vsurge = h .vsurge .2 }) (h .w .1)
-
--- and a reset leaves a good one good
-pub cleared-good : (named : Alarms) (a : Watch) (volts : List ℤ) → Good a volts → Good (clearedOf named a) volts
-unfolding clearedOf
-cleared-good named a volts h = record { ranged = h .ranged; seen = h .seen; kept = h .kept }

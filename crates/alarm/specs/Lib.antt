@@ -1,7 +1,4 @@
--- Sag and surge on the half cycle (document 02, A3).
+-- Sag and surge, sample by sample, their start and their reset (document 02, A3).
 pub mod Masks
 pub mod Alarms
 pub mod Starting
-pub mod Passing
-pub mod History
-pub mod Inside

@@ -40,6 +40,6 @@ cards-shown p =
     let m = p .log .end in
     record {
       none-at-first = λ r h. shown-is (first p) r h ∙ fresh-shows (first p) (every-start p .fresh);
-      force = λ r h. ap (λ (c : Cards). c .force) (shown-is m r h) ∙ forced m ∙ ap (λ (s : State aberzhan). serialShown (inForce core (s .meter))) e;
-      waiting = λ r h. ap (λ (c : Cards). c .waiting) (shown-is m r h) ∙ waits m ∙ ap (λ (s : State aberzhan). serialShown (inWait (s .meter))) e;
+      force = λ r h. ap (λ (c : Cards). c .force) (shown-is m r h) ∙ forced m ∙ ap (λ (s : State aberzhan). serialShown (inForce core (s .meter .intervals))) e;
+      waiting = λ r h. ap (λ (c : Cards). c .waiting) (shown-is m r h) ∙ waits m ∙ ap (λ (s : State aberzhan). serialShown (inWait (s .meter .intervals))) e;
     }

@@ -16,17 +16,21 @@ use Rattle.address.specs.Addresses.{trackable, untracked, words, position, plac
 use Rattle.address.specs.Slots.{slotOk, everySlot}
 use Rattle.tracking.specs.Tracking.{tracked, further, lowest, highest, followed}
 use Rattle.interval.specs.Close.{sourceAfter, sevenOf, registersAfter, numberAfter, closedOf}
-use Rattle.meter.specs.Core.{samplesOf, lastOf, closedWork}
-use Rattle.meter.specs.Blocks.{waitOf, nextCard, soundOf, blockOf as meterBlock}
-use Rattle.meter.specs.Starting.{numbersOk, freshOf, startOf as meterStart}
+use Rattle.alarm.specs.Masks.{onlyAlarms, namedBy}
+use Rattle.alarm.specs.Alarms.{nextPlace, slidSum, sags, surges, shown, alarmsAfter, watched, seenWith, clearedOf, clearing, resetOf as watchReset}
+use Rattle.alarm.specs.Starting.{numbersOk as levelsOk, askedOk, limitsOf}
+use Rattle.halfcycle.specs.Passing.{squares, watchSound}
+use Rattle.meter.specs.Core.{samplesOf, lastOf, closedWork, resetWatch}
+use Rattle.meter.specs.Blocks.{waitOf, nextCard, soundOf, blockDone, blockOf as meterBlock, voltsOf}
+use Rattle.meter.specs.Starting.{numbersOk, freshOf}
 use Rattle.desk.specs.Desks.{emptyCard, withField, opening, writing, allWritten, cardOn, finished, discarded}
 use Rattle.port.specs.Holds.{copyOf, copied}
 use Rattle.port.specs.Reading.{registers, slotOff, look}
-use Rattle.aberzhan.specs.Module.{portAt, freshModule, startOf, openOf, writeOf, commitOf, dropOf, holdOf, readOf, blockOf}
+use Rattle.aberzhan.specs.Module.{portAt, freshModule, settingsOk, startOf, openOf, writeOf, commitOf, dropOf, holdOf, readOf, blockOf, resetOf}
 use Rattle.demands.specs.Day.{DayIsSo}
 
 pub day-is-so : DayIsSo
-unfolding startOf meterStart numbersOk everySlot slotOk placeOf position trackable freshOf freshModule portAt opening writing isSerial digitsOk every serialOf padded emptyCard withField isField fieldInRange fitsField lows highs finished allWritten cardOn discarded copied copyOf look registerOf byteOf words untracked slotOff registers samplesOf every24 in24 samplesIn added summed joined counted previous voltage phased current voltageClipped currentClipped scaled corrected wasClipped mixed outside24 clipped heldWithin floorDiv closedWork lastOf closedOf numberAfter registersAfter vrmsOf rms rootOf rootBy sourceAfter figuresOf six currentRoot isSquelched irmsOf belowSquelch wattOf ipeakOf activeOf towardZero withSign lessened apparentOf factorOf crestOf plusAfter minusAfter joinedBy advanced sevenOf followed tracked further lowest highest emptied openOf writeOf commitOf dropOf holdOf readOf blockOf meterBlock waitOf nextCard soundOf ofAtMost phaseInRange
+unfolding startOf settingsOk askedOk levelsOk onlyAlarms namedBy limitsOf numbersOk everySlot slotOk placeOf position trackable freshOf freshModule portAt opening writing isSerial digitsOk every serialOf padded emptyCard withField isField fieldInRange fitsField lows highs finished allWritten cardOn discarded copied copyOf look registerOf byteOf words untracked slotOff registers samplesOf every24 in24 samplesIn added summed joined counted previous voltage phased current voltageClipped currentClipped scaled corrected wasClipped mixed outside24 clipped heldWithin floorDiv closedWork lastOf closedOf numberAfter registersAfter vrmsOf rms rootOf rootBy sourceAfter figuresOf six currentRoot isSquelched irmsOf belowSquelch wattOf ipeakOf activeOf towardZero withSign lessened apparentOf factorOf crestOf plusAfter minusAfter joinedBy advanced sevenOf followed tracked further lowest highest emptied openOf writeOf commitOf dropOf holdOf readOf blockOf resetOf watchReset resetWatch clearing clearedOf meterBlock voltsOf blockDone waitOf nextCard soundOf watchSound squares seenWith watched slidSum nextPlace alarmsAfter shown sags surges ofAtMost phaseInRange
 day-is-so = record {
   shortens = refl;
   refuses = (refl, refl);
@@ -35,4 +39,6 @@ day-is-so = record {
   leaves = (refl, refl);
   cuts = refl;
   counts = (refl, refl);
+  came = refl;
+  means = (refl, refl);
 }

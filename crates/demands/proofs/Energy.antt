@@ -6,13 +6,13 @@ use Rattle.steps.specs.Module.{State}
 use Rattle.steps.specs.OneCard.{Interval, gathered, closedAll}
 use Rattle.steps.proofs.Work.{LastingWork, always-work}
 use Rattle.card.specs.declared.Card.{Card}
-use Rattle.address.specs.declared.WordAddr.{WordAddr}
 use Rattle.energy.specs.declared.Energy.{Energy}
 use Rattle.interval.specs.declared.Settings.{Settings}
 use Rattle.interval.specs.declared.Closed.{Closed}
 use Rattle.rules.specs.Source.{six, figuresOf}
 use Rattle.energy.specs.Energies.{noEnergy}
 use Rattle.interval.specs.Close.{sourceAfter, registersAfter, closedOf, noneClosed}
+use Rattle.alarm.specs.Starting.{freshWatch}
 use Rattle.meter.specs.declared.Work.{Work}
 use Rattle.meter.specs.Core.{core, lastOf, closedWork}
 use Rattle.meter.specs.Starting.{freshOf}
@@ -22,7 +22,7 @@ use Rattle.aberzhan.specs.Module.{freshModule}
 use Rattle.aberzhan.specs.Calls.{stateOf}
 use Rattle.demands.specs.Program.{first, settings, steps, closes}
 use Rattle.demands.specs.EnergyHistory.{plusWith, minusWith, Counted, EachCounted, EnergyHistory}
-use Rattle.demands.proofs.Demand3.{of-start, module-demand3, closedFrom, one-card-each}
+use Rattle.demands.proofs.Demand3.{OfFresh, of-start, module-demand3, closedFrom, one-card-each}
 use Rattle.demands.proofs.Cuts.{sums-only}
 
 -- ---- one close
@@ -97,10 +97,10 @@ record Uncounted (z : Module) : Type 0 where
   at-first : Counted (z .meter .work .settings) (z .meter .work) []
   each : (is : List (Interval core)) → EachCounted (z .meter .work .settings) noEnergy noEnergy (closedAll core is (z .meter .work))
 
-fresh-uncounted : (n b : ℕ) (track : List WordAddr) → 1 ≤ n → n ≤ 4096 → Uncounted (freshModule (freshOf n b track))
+fresh-uncounted : OfFresh Uncounted
 unfolding freshModule freshOf
-fresh-uncounted n b track n1 n2 =
-    let z = freshModule (freshOf n b track) in
+fresh-uncounted n b track t n1 n2 g =
+    let z = freshModule (freshOf n b track) (freshWatch t) in
     record {
       at-first = record { settings-are = refl; plus = refl; minus = refl; last = refl };
       each = λ is. each-counted (z .meter .work .settings) is (z .meter .work) refl;
@@ -112,7 +112,7 @@ energy-history p =
     let u = of-start Uncounted fresh-uncounted p in
     record {
       at-end =
-          subst (λ (w : Work). Counted t w (closes p)) (ap (λ (s : State aberzhan). s .meter .work) (sym (module-demand3 p .calls .end)))
+          subst (λ (w : Work). Counted t w (closes p)) (ap (λ (s : State aberzhan). s .meter .intervals .work) (sym (module-demand3 p .calls .end)))
           (always-work core (lasts t) ports (stateOf (first p)) (steps p) (u .at-first));
       in-each = subst (EachCounted t noEnergy noEnergy) (sym (one-card-each p)) (u .each (closedFrom p));
     }

@@ -1,5 +1,4 @@
--- A hold tells of the interval that closed last.
-use Prim.Native.Nat.{ℕ, _≤_}
+-- A hold tells of the interval that closed last, and the alarms as they are.
 use mathlib.Core.Path.{_≡_, refl, sym, ap, subst, _∙_}
 use mathlib.Core.Bool.{Bool, true, false, cond}
 use mathlib.Core.List.{List, [], _∷_, _++_, foldl-append}
@@ -8,7 +7,7 @@ use Rattle.steps.specs.Port.{Port}
 use Rattle.steps.specs.Module.{State}
 use Rattle.steps.proofs.Work.{LastingWork, always-work}
 use Rattle.card.specs.declared.Card.{Card}
-use Rattle.address.specs.declared.WordAddr.{WordAddr}
+use Rattle.alarm.specs.declared.Alarms.{Alarms}
 use Rattle.interval.specs.declared.Closed.{Closed}
 use Rattle.meter.specs.declared.Work.{Work}
 use Rattle.meter.specs.Core.{core, lastOf, closedWork}
@@ -20,9 +19,10 @@ use Rattle.aberzhan.specs.Module.{freshModule}
 use Rattle.aberzhan.specs.Calls.{stateOf, numberOf}
 use Rattle.aberzhan.proofs.Contracts.{Holds}
 use Rattle.aberzhan.proofs.Told.{hold-tells, hold-refused}
-use Rattle.demands.specs.Program.{first, steps}
+use Rattle.demands.specs.Program.{first, steps, closes}
 use Rattle.demands.specs.Holds.{lastly, Telling, HoldsTell}
-use Rattle.demands.proofs.Demand3.{of-start, module-demand3}
+use Rattle.demands.proofs.Demand3.{OfFresh, of-start, module-demand3}
+use Rattle.demands.proofs.Alarms.{every-alarm}
 
 -- the interval that the work shows as the last
 abbrev shown : Work → Option Closed
@@ -40,12 +40,12 @@ lasts = record {
   on-close = λ c w h i. close-shown c w h;
 }
 
-fresh-shown : (n b : ℕ) (track : List WordAddr) → 1 ≤ n → n ≤ 4096 → shown (freshModule (freshOf n b track) .meter .work) ≡ none
+fresh-shown : OfFresh (λ m. shown (m .meter .work) ≡ none)
 unfolding freshModule freshOf
-fresh-shown n b track n1 n2 = refl
+fresh-shown n b track t n1 n2 g = refl
 
 by-any : (m : Module) (q : Port) (r : Holding) → Holds m (numberOf (some q)) r → (b : Bool) → m .meter .work .any ≡ b →
-    Telling (cond b (some (m .meter .work .last)) none) r
+    Telling (cond b (some (m .meter .work .last)) none) (m .watch .alarms) r
 by-any m q r h true e = hold-tells m q r h e
 by-any m q r h false e = hold-refused m q r h e
 
@@ -54,5 +54,6 @@ holds-tell p q r h =
     let m = p .log .end in
     let begun = of-start (λ (m : Module). shown (m .meter .work) ≡ none) fresh-shown p in
     let ends = always-work core lasts ports (stateOf (first p)) (steps p) begun in
-    let same = ap (λ (s : State aberzhan). s .meter .work) (module-demand3 p .calls .end) in
-    subst (λ (z : Option Closed). Telling z r) (ap shown same ∙ ends) (by-any m q r h (m .meter .work .any) refl)
+    let same = ap (λ (s : State aberzhan). s .meter .intervals .work) (module-demand3 p .calls .end) in
+    subst (λ (a : Alarms). Telling (lastly (closes p)) a r) (every-alarm p .alarms)
+    (subst (λ (z : Option Closed). Telling z (m .watch .alarms) r) (ap shown same ∙ ends) (by-any m q r h (m .meter .work .any) refl))

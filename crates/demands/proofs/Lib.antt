@@ -6,5 +6,6 @@ pub mod Cuts
 pub mod Wholes
 pub mod Energy
 pub mod History
+pub mod Alarms
 pub mod Holds
 pub mod Day

@@ -13,7 +13,6 @@ use Rattle.steps.specs.Gauge.{latest}
 use Rattle.steps.specs.OneCard.{Tagged, tagged, Interval, closedAll, samplesFed}
 use Rattle.steps.proofs.AllSamples.{all-fed}
 use Rattle.card.specs.declared.Card.{Card}
-use Rattle.address.specs.declared.WordAddr.{WordAddr}
 use Rattle.sample.specs.declared.Sums.{Sums}
 use Rattle.interval.specs.declared.Settings.{Settings}
 use Rattle.interval.specs.declared.Closed.{Closed}
@@ -30,7 +29,7 @@ use Rattle.aberzhan.specs.Module.{freshModule}
 use Rattle.aberzhan.specs.Calls.{stateOf}
 use Rattle.demands.specs.Program.{Program, first, settings, steps, ran}
 use Rattle.demands.specs.Intervals.{samplesWithCards, intervalsOf, EachHas, rawBefore, wholes, WholeIntervals}
-use Rattle.demands.proofs.Demand3.{of-start, module-demand3, closedFrom, one-card-each}
+use Rattle.demands.proofs.Demand3.{OfFresh, of-start, module-demand3, closedFrom, one-card-each}
 use Rattle.demands.proofs.Cuts.{sums-only, cut-is, each-has}
 
 -- ---- one interval
@@ -103,9 +102,9 @@ record Outset (z : Module) : Type 0 where
   none-closed : z .meter .work .any ≡ false
   last : z .meter .work .last ≡ noneClosed
 
-fresh-outset : (n b : ℕ) (track : List WordAddr) → 1 ≤ n → n ≤ 4096 → Outset (freshModule (freshOf n b track))
+fresh-outset : OfFresh Outset
 unfolding freshModule freshOf emptied
-fresh-outset n b track n1 n2 = record { some-n = n1; empty = refl; none-closed = refl; last = refl }
+fresh-outset n b track t n1 n2 g = record { some-n = n1; empty = refl; none-closed = refl; last = refl }
 
 pub cut-from : (p : Program) → closedFrom p ≡ intervalsOf p
 cut-from p = cut-is (settings p .n) (of-start Outset fresh-outset p .some-n) (samplesWithCards p) (first p .meter .work) refl
@@ -126,8 +125,8 @@ whole-intervals p =
           ∙ ap (λ (z : Closed). wholes (settings p) true none z (intervalsOf p)) (o .last);
     }
   where
-    latest-none : latest core (stateOf (first p) .meter) ≡ none
-    latest-none = ap (λ (s : State aberzhan). latest core (s .meter)) (module-demand3 p .begins)
+    latest-none : latest core (stateOf (first p) .meter .intervals) ≡ none
+    latest-none = ap (λ (s : State aberzhan). latest core (s .meter .intervals)) (module-demand3 p .begins)
 
     all-are : map (λ (t : Tagged core). t .1) (samplesWithCards p) ≡ samplesFed core ports (struck aberzhan (steps p) (stateOf (first p)))
     all-are =

@@ -1,17 +1,19 @@
 -- What a start returns: the settings asked for, or 7 and the lowest; and in either case a fresh module.
 use mathlib.Core.Path.{_≡_}
-use mathlib.Core.Bool.{false, cond, _&&_}
+use mathlib.Core.Bool.{false, cond}
 use lib.IntN.{natAbs}
 use lib.ListN.{replicate}
 use Rattle.steps.specs.declared.Answer.the-variants.{Done, Refused}
-use Rattle.address.specs.Slots.{off, everySlot}
+use Rattle.address.specs.Slots.{off}
+use Rattle.alarm.specs.Masks.{noAlarms}
+use Rattle.alarm.specs.Starting.{limitsIn, lowestLimits, noVolts}
 use Rattle.energy.specs.Energies.{noEnergy}
 use Rattle.interval.specs.declared.Settings.{Settings}
-use Rattle.meter.specs.Starting.{numbersOk}
 use Rattle.aberzhan.specs.declared.Module.{Module}
-use Rattle.demands.specs.Program.{Program, first, settings}
+use Rattle.aberzhan.specs.Module.{settingsOk}
+use Rattle.demands.specs.Program.{Program, first, settings, limits}
 
--- no card, no interval, counts and remainders 0; no port is open, nothing is held
+-- no card, no interval, counts and remainders 0; no voltage seen, no alarm; no port is open, nothing is held
 pub record Fresh (z : Module) : Type 0 where
   pub none-waits : z .meter .waits ≡ false
   pub none-in-force : z .meter .forced ≡ false
@@ -19,6 +21,10 @@ pub record Fresh (z : Module) : Type 0 where
   pub none-closed : z .meter .work .any ≡ false
   pub plus : z .meter .work .last .regs .a .plus ≡ noEnergy
   pub minus : z .meter .work .last .regs .a .minus ≡ noEnergy
+  pub none-seen : z .watch .seen ≡ 0
+  pub no-sum : z .watch .sum ≡ 0
+  pub no-volts : z .volts ≡ noVolts
+  pub no-alarm : z .watch .alarms ≡ noAlarms
   pub port0-shut : z .desk0 .opened ≡ false
   pub port1-shut : z .desk1 .opened ≡ false
   pub port0-unheld : z .hold0 .any ≡ false
@@ -29,9 +35,9 @@ abbrev pub lowestSettings : Settings
 lowestSettings = record { n = 1; b = 1; track = replicate 6 off }
 
 pub record Begins (p : Program) : Type 0 where
-  pub answer : p .started .answer ≡ cond (numbersOk (p .n) (p .b) && everySlot (p .track)) Done (Refused 7)
-  pub settings-are : settings p ≡ cond (numbersOk (p .n) (p .b) && everySlot (p .track))
-      (record { n = natAbs (p .n); b = natAbs (p .b); track = p .track }) lowestSettings
+  pub answer : p .started .answer ≡ cond (settingsOk (p .n) (p .b) (p .track) (p .asked)) Done (Refused 7)
+  pub settings-are : settings p ≡ cond (settingsOk (p .n) (p .b) (p .track) (p .asked)) (record { n = natAbs (p .n); b = natAbs (p .b); track = p .track }) lowestSettings
+  pub limits-are : limits p ≡ cond (settingsOk (p .n) (p .b) (p .track) (p .asked)) (limitsIn (p .asked)) lowestLimits
   pub fresh : Fresh (first p)
 
 abbrev pub EveryStart : Type 0

@@ -22,8 +22,8 @@ serialShown (some c) = c .serial
 -- r is anything that the contract of `Module::cards` allows
 pub record ShowsCards (p : Program) : Type 0 where
   pub none-at-first : (r : Cards) → Shows (first p) r → r ≡ record { force = noSerial; waiting = noSerial }
-  pub force : (r : Cards) → Shows (p .log .end) r → r .force ≡ serialShown (inForce core (ran p .end .meter))
-  pub waiting : (r : Cards) → Shows (p .log .end) r → r .waiting ≡ serialShown (inWait (ran p .end .meter))
+  pub force : (r : Cards) → Shows (p .log .end) r → r .force ≡ serialShown (inForce core (ran p .end .meter .intervals))
+  pub waiting : (r : Cards) → Shows (p .log .end) r → r .waiting ≡ serialShown (inWait (ran p .end .meter .intervals))
 
 abbrev pub CardsShown : Type 0
 CardsShown = (p : Program) → ShowsCards p

@@ -1,24 +1,28 @@
 -- A day at a site, worked through with the module itself: a program of calls by both ports and the sample feed, its shorter sequence, and what
--- comes of both: a card dropped, one replaced before any sample, a field written twice, a clipped sample, a card still open in the evening. `proofs/Day.antt`
--- computes it. N is 2, the bucket 100; slot 1 tracks VA_RMS, the others are off.
+-- comes of both: a card dropped, one replaced before any sample, a field written twice, a clipped sample, a sag and its reset, a card still open in the
+-- evening. `proofs/Day.antt` computes it. N is 2, the bucket 100; slot 1 tracks VA_RMS, the others are off. Half a cycle is 2 samples, VSAG 3,500,000,
+-- VSURGE 4,194,303; sag is sticky, surge is not.
 use Prim.Native.Nat.{ℕ, suc}
 use mathlib.Core.Path.{_≡_}
 use mathlib.Core.Bool.{true, false}
 use mathlib.Core.List.{List, [], _∷_, _++_, map}
 use mathlib.Core.Option.{none, some}
 use lib.IntN.{ℤ, pos, negsuc}
-use lib.ListN.{replicate}
+use lib.ListN.{take, replicate}
 use Rattle.steps.specs.Port.{port0, port1, PerPort}
-use Rattle.steps.specs.Module.{Op, edit, hold, read, Step, atPort, block}
+use Rattle.steps.specs.Module.{Op, edit, hold, read, Step, atPort, block, reset}
 use Rattle.steps.specs.Run.{run}
 use Rattle.steps.specs.Shorter.{Act, plain, card, stepsOf, shorter}
-use Rattle.steps.specs.OneCard.{Interval, tagged}
+use Rattle.steps.specs.OneCard.{Interval, tagged, outset}
+use Rattle.steps.specs.Watching.{marked}
 use Rattle.steps.specs.Calls.{asked, runOf}
 use Rattle.serial.specs.declared.Serial.{Serial}
 use Rattle.card.specs.declared.Card.{Card}
 use Rattle.address.specs.declared.WordAddr.{WordAddr}
 use Rattle.address.specs.declared.ByteAddr.{ByteAddr}
 use Rattle.sample.specs.Sums.{noClips}
+use Rattle.alarm.specs.declared.Alarms.{Alarms}
+use Rattle.halfcycle.specs.History.{Came, voltage, reset as cleared, alarmsMeant}
 use Rattle.energy.specs.declared.Energy.{Energy}
 use Rattle.interval.specs.declared.Closed.{Closed}
 use Rattle.address.specs.Slots.{off}
@@ -28,10 +32,11 @@ use Rattle.desk.specs.Desks.{Edit, openWith, writeField, shutDesk}
 use Rattle.port.specs.Holds.{Value, interval, register}
 use Rattle.aberzhan.specs.Ports.{ports, aberzhan}
 use Rattle.aberzhan.specs.Module.{startOf}
-use Rattle.aberzhan.specs.Calls.{Call, callOpen, callWrite, callCommit, callDrop, callHold, callRead, callBlock, stateOf, callOf, program}
+use Rattle.aberzhan.specs.Calls.{Call, callOpen, callWrite, callCommit, callDrop, callHold, callRead, callBlock, callReset, stateOf, callOf, program}
 use Rattle.aberzhan.proofs.Contracts.{methods}
 use Rattle.demands.specs.Intervals.{cutBy}
 use Rattle.demands.specs.EnergyHistory.{plusOver, minusOver}
+use Rattle.demands.specs.Alarms.{cameAs}
 
 -- ---- what is used
 
@@ -87,8 +92,12 @@ tooMuch = negsuc 4194304
 abbrev pub track : List WordAddr
 track = record { 0 = 0x2B } ∷ replicate 5 off
 
+-- bit 21
+abbrev pub sagBit : ℤ
+sagBit = pos 2097152
+
 abbrev pub site : Module
-site = startOf (pos 2) (pos 100) track .after
+site = startOf (pos 2) (pos 100) track (record { w = pos 2; vsag = pos 3500000; vsurge = pos 4194303; sticky = sagBit }) .after
 
 -- ---- the day: port 0 is the fitter's, port 1 the panel's, where the site's reader works
 
@@ -123,6 +132,8 @@ day =
     ∷ callHold (pos 256)  -- refused, 8
     ∷ callHold panel
     ∷ callRead panel (byte 0x1B6)
+    ∷ callReset (pos 1)  -- refused, 12: bit 0 is no alarm
+    ∷ callReset sagBit  -- the sag of interval 2 is over
     ∷ callOpen fitter t600  -- a card still open in the evening
     ∷ callRead panel (byte 0x153)
     ∷ callBlock (half ∷ []) (pos 60 ∷ [])  -- begins interval 4
@@ -146,6 +157,7 @@ shorterDay =
     ∷ card port1 (cardEdits t601 4194304)
     ∷ plain (block (quarter ∷ half ∷ half ∷ [], pos 60 ∷ negsuc 59 ∷ tooMuch ∷ []))
     ∷ at1 (hold tt) ∷ at1 (read (byte 0x1B6)) ∷ at1 (read (byte 0x153))
+    ∷ plain (reset sagBit)
     ∷ at0 (edit (openWith t600))
     ∷ plain (block (half ∷ [], pos 60 ∷ []))
     ∷ at0 (edit (writeField (pos 1) (pos 4))) ∷ []
@@ -157,6 +169,13 @@ s0417 = record { len = 4; digits = t0417 ++ replicate 8 0 }
 
 abbrev pub s601 : Serial
 s601 = record { len = 3; digits = t601 ++ replicate 9 0 }
+
+-- two samples of half make a surge: 2 times half squared is more than 2 times 4,194,303 squared; one of them a quarter make a sag
+abbrev pub surgeAlone : Alarms
+surgeAlone = record { sag = false; surge = true }
+
+abbrev pub sagToo : Alarms
+sagToo = record { sag = true; surge = true }
 
 -- five slots are off
 abbrev pub slot1 : ℕ → List ℤ
@@ -214,10 +233,10 @@ dayClosed = interval1 ∷ interval2 ∷ interval3 ∷ []
 
 abbrev pub dayHeard : PerPort (List (Op aberzhan × Value))
 dayHeard = record {
-  on0 = (hold tt, interval 1 s0417 noClips) ∷ (read (byte 0x1AD), register (pos 0)) ∷ [];
+  on0 = (hold tt, interval 1 s0417 noClips surgeAlone) ∷ (read (byte 0x1AD), register (pos 0)) ∷ [];
   on1 =
-      (hold tt, interval 1 s0417 noClips) ∷ (read (byte 0xE1), register (pos 30))
-      ∷ (hold tt, interval 3 s601 (record { v = 0; i = 1 })) ∷ (read (byte 0x1B6), register (pos 41943)) ∷ (read (byte 0x153), register (pos 3315888)) ∷ [];
+      (hold tt, interval 1 s0417 noClips surgeAlone) ∷ (read (byte 0xE1), register (pos 30))
+      ∷ (hold tt, interval 3 s601 (record { v = 0; i = 1 }) sagToo) ∷ (read (byte 0x1B6), register (pos 41943)) ∷ (read (byte 0x153), register (pos 3315888)) ∷ [];
 }
 
 abbrev pub card601 : Card
@@ -247,6 +266,14 @@ evening = record {
       last = interval3;
     };
   };
+  watch = record {
+    limits = record { w = 2; vsag = 3500000; vsurge = 4194303; sticky = record { sag = true; surge = false } };
+    at = 1;
+    seen = 2;
+    sum = 35184372088832;
+    alarms = surgeAlone;
+  };
+  volts = half ∷ half ∷ replicate 510 (pos 0);
   desk0 = record {
     opened = true;
     serial = record { len = 3; digits = t600 ++ replicate 9 0 };
@@ -258,6 +285,11 @@ evening = record {
   hold1 = record { any = true; closed = interval3; track = track };
 }
 
+-- all corrected voltages, and the reset where it stood
+abbrev pub dayCame : List Came
+dayCame =
+    voltage half ∷ voltage half ∷ voltage half ∷ voltage quarter ∷ voltage half ∷ voltage half ∷ cleared sagBit ∷ voltage half ∷ []
+
 -- ---- that it is so
 
 abbrev pub shorterSteps : List (Step aberzhan)
@@ -265,8 +297,8 @@ shorterSteps = stepsOf aberzhan shorterDay
 
 pub record DayIsSo : Type 0 where
   pub shortens : shorter aberzhan (stateOf site) (asked aberzhan methods site day) ≡ shorterDay
-  -- ten calls of the day are refused (18, 9, 13, 12, 11, 14, 15, 16, 17, 8), and none of the shorter day
-  pub refuses : (program day site .refusals ≡ 10) × (program (map callOf shorterSteps) site .refusals ≡ 0)
+  -- eleven calls of the day are refused (18, 9, 13, 12, 11, 14, 15, 16, 17, 8, 12), and none of the shorter day
+  pub refuses : (program day site .refusals ≡ 11) × (program (map callOf shorterSteps) site .refusals ≡ 0)
   pub tells : (program day site .heard ≡ dayHeard) × (program (map callOf shorterSteps) site .heard ≡ dayHeard)
   pub closes : (runOf aberzhan methods site day .closed ≡ dayClosed) × (run aberzhan shorterSteps (stateOf site) .closed ≡ dayClosed)
   pub leaves : (program day site .end ≡ evening) × (program (map callOf shorterSteps) site .end ≡ evening)
@@ -274,3 +306,6 @@ pub record DayIsSo : Type 0 where
   pub cuts : cutBy 2 (tagged core ports none (runOf aberzhan methods site day .history)) ≡ dayIntervals
   -- and the energy rule over them
   pub counts : (plusOver (site .meter .work .settings) dayClosed ≡ energy 1 4) × (minusOver (site .meter .work .settings) dayClosed ≡ energy 41943 64)
+  -- and the alarms: what came, and what it means, before the reset and after the last voltage
+  pub came : map cameAs (marked core ports none (runOf aberzhan methods site day .history) (outset core (site .meter .work))) ≡ dayCame
+  pub means : (alarmsMeant (site .watch .limits) (take 6 dayCame) ≡ sagToo) × (alarmsMeant (site .watch .limits) dayCame ≡ surgeAlone)

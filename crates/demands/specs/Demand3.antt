@@ -5,15 +5,17 @@ use mathlib.Core.List.{List}
 use lib.IntN.{ℤ}
 use Rattle.steps.specs.Answers.{accepted}
 use Rattle.steps.specs.Module.{fresh}
-use Rattle.steps.specs.Gauge.{new}
+use Rattle.steps.specs.Gauge.{newly}
 use Rattle.steps.specs.Promise.{Promise}
 use Rattle.steps.specs.Calls.{Reply, refuses, done, Log, Ran, shorterCalls, CallsDemand3}
 use Rattle.sample.specs.Sums.{Sample}
+use Rattle.halfcycle.specs.Passing.{watchSound}
 use Rattle.meter.specs.Core.{core, samplesOf}
 use Rattle.meter.specs.Blocks.{soundOf}
 use Rattle.meter.specs.Starting.{noCard}
 use Rattle.aberzhan.specs.declared.Module.{Module}
 use Rattle.aberzhan.specs.Ports.{ports, aberzhan}
+use Rattle.aberzhan.specs.Module.{watchOf}
 use Rattle.aberzhan.specs.Calls.{stateOf, callBlock}
 use Rattle.aberzhan.proofs.Contracts.{Allows, methods}
 use Rattle.demands.specs.Program.{Program, first, steps}
@@ -21,17 +23,19 @@ use Rattle.demands.specs.Program.{Program, first, steps}
 pub record ProgramDemand3 (p : Program) : Type 0 where
   -- the calls do what the steps do that they ask for, from the state of a fresh module; every log of the shorter sequence's calls has no refusal,
   -- the same values of every hold and read, and the same state at the end
-  pub begins : stateOf (first p) ≡ fresh aberzhan (new core noCard (first p .meter .work))
+  pub begins : stateOf (first p) ≡ fresh aberzhan (newly core noCard (first p .meter .work) (watchOf (first p)))
   pub calls : CallsDemand3 aberzhan methods (first p) (p .calls) (p .log)
   -- and leaves the very same struct
   pub same-struct : (short : Log aberzhan Module) → Ran aberzhan methods (shorterCalls aberzhan methods (first p) (p .calls)) (first p) short →
       short .end ≡ p .log .end
-  -- the shorter sequence is what the demand's words say; it closes the same intervals, counts the same energy and has the same card in
-  -- force; each closed interval is worked with one card, the last one committed before its first sample; no sample is lost
-  pub promise : Promise core ports noCard (first p .meter .work) (steps p)
+  -- the shorter sequence is what the demand's words say; it closes the same intervals, counts the same energy, has the same card in
+  -- force, the same alarms and the same last voltages; each closed interval is worked with one card, the last one committed before its first
+  -- sample; no sample is lost; the watch sees each sample with the card of its interval, and meets each reset where it stood
+  pub promise : Promise core ports noCard (first p .meter .work) (watchOf (first p)) (steps p)
   -- no sum of the module that is left can overflow; so a block whose samples are well formed is refused exactly when no card is in force and
   -- none waits, and then with 18
   pub sound : soundOf (p .log .end .meter) ≡ true
+  pub watch-sound : watchSound (watchOf (p .log .end)) ≡ true
   pub eighteen : (v i : List ℤ) (xs : List Sample) (o : Reply aberzhan × Module) → samplesOf v i ≡ accepted xs → Allows (callBlock v i) (p .log .end) o →
       o .0 ≡ cond (p .log .end .meter .waits || p .log .end .meter .forced) done (refuses 18)
 

@@ -1,25 +1,27 @@
--- What a hold tells, after every program: of the interval that closed last, and nothing of the one that runs.
+-- What a hold tells, after every program: of the interval that closed last, and nothing of the one that runs; and the alarms as they are.
 use mathlib.Core.Path.{_≡_}
 use mathlib.Core.List.{List, foldl}
 use mathlib.Core.Option.{Option, none, some}
 use Rattle.steps.specs.Port.{Port}
 use Rattle.steps.specs.declared.Answer.the-variants.{Refused}
+use Rattle.alarm.specs.declared.Alarms.{Alarms}
 use Rattle.interval.specs.declared.Closed.{Closed}
 use Rattle.aberzhan.specs.declared.Holding.{Holding}
 use Rattle.aberzhan.specs.Calls.{numberOf}
 use Rattle.aberzhan.specs.Told.{TellsOf}
 use Rattle.aberzhan.proofs.Contracts.{Holds}
 use Rattle.demands.specs.Program.{Program, closes}
+use Rattle.demands.specs.Alarms.{alarmsOf}
 
 -- the last of the intervals that have closed, if any has
 abbrev pub lastly : List Closed → Option Closed
 lastly h = foldl (λ (y : Option Closed) (z : Closed). some z) none h
 
--- its number, its serial and its counts of clipped samples; 14 if no interval has closed
-abbrev pub Telling : Option Closed → Holding → Type 0
-Telling none r = r .answer ≡ Refused 14
-Telling (some z) r = TellsOf z r
+-- its number, its serial and its counts of clipped samples, with these alarms; 14 if no interval has closed
+abbrev pub Telling : Option Closed → Alarms → Holding → Type 0
+Telling none a r = r .answer ≡ Refused 14
+Telling (some z) a r = TellsOf z a r
 
 -- r is anything that the contract of `Module::hold` allows at the program's end, at either port
 abbrev pub HoldsTell : Type 0
-HoldsTell = (p : Program) (q : Port) (r : Holding) → Holds (p .log .end) (numberOf (some q)) r → Telling (lastly (closes p)) r
+HoldsTell = (p : Program) (q : Port) (r : Holding) → Holds (p .log .end) (numberOf (some q)) r → Telling (lastly (closes p)) (alarmsOf p) r

@@ -2,9 +2,10 @@
 pub mod Program
 pub mod Beginning
 pub mod Demand3
-pub mod Holds
 pub mod Cards
 pub mod Intervals
+pub mod Alarms
+pub mod Holds
 pub mod EnergyHistory
 pub mod History
 pub mod Day

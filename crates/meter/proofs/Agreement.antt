@@ -10,7 +10,7 @@ use lib.IntN.{ℤ}
 use Rattle.steps.specs.Answers.{OrRefusal, refused, accepted}
 use Rattle.steps.specs.Gauge.{Meter, latest, feeds, samples, waitsFor, passes}
 use Rattle.alarm.specs.Alarms.{Watching}
-use Rattle.alarm.specs.Passing.{watchSound}
+use Rattle.halfcycle.specs.Passing.{watchSound}
 use Rattle.card.specs.declared.Card.{Card}
 use Rattle.interval.specs.declared.Closed.{Closed}
 use Rattle.sample.specs.Sums.{Sample}

@@ -14,8 +14,8 @@ use Rattle.card.specs.declared.Card.{Card}
 use Rattle.interval.specs.declared.Closed.{Closed}
 use Rattle.sample.specs.Sums.{Sample, samplesIn}
 use Rattle.alarm.specs.Alarms.{Watching, seenWith}
-use Rattle.alarm.specs.Passing.{seenAll, seenBy}
-use Rattle.alarm.proofs.Parts.{seen-none}
+use Rattle.halfcycle.specs.Passing.{seenAll, seenBy}
+use Rattle.halfcycle.proofs.Parts.{seen-none}
 use Rattle.meter.specs.declared.Work.{Work}
 use Rattle.meter.specs.declared.Meter.{Meter as Kept}
 use Rattle.meter.specs.Core.{core, meterOf, withSums, closedWork}

@@ -16,7 +16,7 @@ use Rattle.sample.specs.Sums.{Sample, samplesIn}
 use Rattle.sample.specs.Sample.{every24}
 use Rattle.sample.proofs.Tests.{both-of}
 use Rattle.alarm.specs.Alarms.{Watching}
-use Rattle.alarm.specs.Passing.{watchSound}
+use Rattle.halfcycle.specs.Passing.{watchSound}
 use Rattle.meter.specs.Core.{core, samplesOf, meterOf, keptOf, meteringOf}
 use Rattle.meter.specs.Inside.{fedOf, passedOf, voltsPassed}
 use Rattle.meter.specs.Blocks.{soundOf, nextCard, carded, blockDone, answered, blockOf, voltsIn, voltsOf}

@@ -10,7 +10,7 @@ use Rattle.card.specs.declared.Card.{Card}
 use Rattle.interval.specs.declared.Closed.{Closed}
 use Rattle.sample.specs.Sums.{ofAtMost, phaseInRange}
 use Rattle.alarm.specs.Alarms.{Watching}
-use Rattle.alarm.specs.Passing.{watchSound}
+use Rattle.halfcycle.specs.Passing.{watchSound}
 use Rattle.meter.specs.declared.Meter.{Meter as Kept}
 use Rattle.steps.specs.declared.Answer.the-variants.{Done, Refused}
 use Rattle.meter.specs.declared.Taken.{Taken}

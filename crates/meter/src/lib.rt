@@ -179,10 +179,10 @@ impl Meter {
         requires { ⌜ soundOf self ≡ true ⌝ }
         ensures { λ r. ⌜ r ≡ turnOf self ⌝ }
     {
-        if self.taken == 0 {
-            return 0;
+        if 0 < self.taken {
+            return (self.work.settings.n - self.taken) as usize;
         }
-        (self.work.settings.n - self.taken) as usize
+        0
     }
 
     // The samples pass the watch, and are fed: 18. The watch is told once where the card changes, so that its voltages are not copied.
@@ -194,7 +194,7 @@ impl Meter {
         if self.has_card() {
             let next = self.card_behind();
             let turn = self.turn();
-            let p = alarm::pass(a, volts, self.force, next, turn, v);
+            let p = halfcycle::pass(a, volts, self.force, next, turn, v);
             let watch = p.watch;
             if p.ok {
                 self = self.feed(v, i);

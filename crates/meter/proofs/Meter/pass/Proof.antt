@@ -7,9 +7,9 @@ use lib.IntN.{ℤ}
 use denote.Ref.{now}
 use Rattle.card.specs.declared.Card.{Card}
 use Rattle.sample.specs.Sums.{samplesIn}
-use Rattle.alarm.specs.declared.Passed.{Passed}
+use Rattle.halfcycle.specs.declared.Passed.{Passed}
 use Rattle.alarm.specs.Alarms.{Watching, both}
-use Rattle.alarm.specs.Passing.{seenBy, watchSound, passedBy, passOf, voltsAfter}
+use Rattle.halfcycle.specs.Passing.{seenBy, watchSound, passedBy, passOf, voltsAfter}
 use Rattle.meter.specs.Blocks.{carded}
 use Rattle.meter.specs.Inside.{cardBehind, turnOf}
 use Rattle.meter.proofs.Sound.{sound-of, carded-sound}
