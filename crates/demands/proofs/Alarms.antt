@@ -1,5 +1,5 @@
 -- The alarms after every program are what they mean of all voltages and resets.
-use mathlib.Core.Path.{_≡_, refl, sym, ap, ap₂, subst, _∙_}
+use mathlib.Core.Path.{_≡_, refl, sym, ap, subst, _∙_}
 use mathlib.Core.List.{List, [], _∷_, _++_, map, foldl}
 use mathlib.Core.Option.{none}
 use lib.IntN.{ℤ}
@@ -10,19 +10,15 @@ use Rattle.steps.specs.OneCard.{Tagged, Interval, tagged, intervals, outset, pl
 use Rattle.steps.specs.Watching.{Mark, seen, named, marked, meets, sampled, withCards, withCardIf}
 use Rattle.sample.specs.Sample.{voltage}
 use Rattle.alarm.specs.declared.Watch.{Watch}
-use Rattle.alarm.specs.declared.Alarms.{Alarms}
-use Rattle.alarm.specs.declared.Limits.{Limits}
 use Rattle.alarm.specs.Alarms.{Watching, both, seenWith, clearing}
-use Rattle.alarm.specs.Starting.{freshWatch, noVolts}
-use Rattle.halfcycle.specs.History.{Came, voltagesOf, lastSquares, alarmsMeant, metBy, Meant}
+use Rattle.halfcycle.specs.History.{Came, voltagesOf, lastSquares, metBy, Meant}
 use Rattle.halfcycle.proofs.History.{meant}
 use Rattle.meter.specs.Core.{core, resetWatch}
-use Rattle.meter.specs.Starting.{freshOf}
 use Rattle.aberzhan.specs.declared.Module.{Module}
 use Rattle.aberzhan.specs.Ports.{ports, aberzhan}
 use Rattle.aberzhan.specs.Module.{watchOf, freshModule}
-use Rattle.demands.specs.Program.{Program, first, limits, steps, ran}
-use Rattle.demands.specs.Intervals.{samplesWithCards, intervalsOf}
+use Rattle.demands.specs.Program.{first, limits, steps, ran}
+use Rattle.demands.specs.Intervals.{samplesWithCards}
 use Rattle.demands.specs.Alarms.{openOf, correctedOf, cameAs, cameOf, EveryAlarm}
 use Rattle.demands.proofs.Demand3.{OfFresh, of-start, module-demand3}
 use Rattle.demands.proofs.Wholes.{cut-from}

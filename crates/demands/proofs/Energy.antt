@@ -1,5 +1,4 @@
 -- The energy rule over the whole history of closes: what an interval's close keeps, every sequence of steps keeps.
-use Prim.Native.Nat.{ℕ, _≤_}
 use mathlib.Core.Path.{_≡_, refl, sym, ap, subst, _∙_}
 use mathlib.Core.List.{List, [], _∷_, _++_, foldl-append}
 use Rattle.steps.specs.Module.{State}

@@ -6,7 +6,7 @@ use mathlib.Core.List.{List, [], _∷_, _++_}
 use native.Mathlib.Nat.{suc-ne-zero, not-suc-le-zero}
 use native.Mathlib.Omega.{arith}
 use lib.Dec.{leb, ltb}
-use lib.IntN.{ℤ, pos}
+use lib.IntN.{ℤ}
 use lib.ListN.{length, take, drop, length-drop, take-append-drop}
 use lib.Seq.{take-all}
 use borrow.Author.Tests.{le-leb, lt-leb, le-ltb}
@@ -19,7 +19,7 @@ use Rattle.alarm.specs.declared.Limits.{Limits}
 use Rattle.alarm.specs.declared.Watch.{Watch}
 use Rattle.halfcycle.specs.declared.Levels.{Levels}
 use Rattle.halfcycle.specs.declared.Sweep.{Sweep}
-use Rattle.alarm.specs.Alarms.{Watching, both, sags, surges, shown, alarmsAfter, watched, seenWith}
+use Rattle.alarm.specs.Alarms.{Watching, both, shown, alarmsAfter, watched, seenWith}
 use Rattle.halfcycle.specs.Passing.{seenAll}
 use Rattle.halfcycle.specs.Inside.{Swing, swing, movedBy, swept, sweptAll, levelsOf, trackOf, Good, Uniform}
 use Rattle.halfcycle.proofs.Windows.{kept-most, kept-slid}

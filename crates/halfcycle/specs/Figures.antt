@@ -2,7 +2,7 @@
 -- and by the meaning.
 use Prim.Native.Nat.{ℕ}
 use mathlib.Core.Path.{_≡_}
-use mathlib.Core.Bool.{Bool, true, false}
+use mathlib.Core.Bool.{true, false}
 use mathlib.Core.List.{List, [], _∷_, map, foldl}
 use lib.IntN.{pos, negsuc}
 use Rattle.alarm.specs.declared.Alarms.{Alarms}

@@ -1,5 +1,5 @@
 -- Voltages of a block, one after another, with the card in force and, from some place on, the one that came into force behind it.
-use Prim.Native.Nat.{ℕ, _+_, _≤_}
+use Prim.Native.Nat.{ℕ, _+_}
 use mathlib.Core.Bool.{Bool, cond, _&&_}
 use mathlib.Core.List.{List, [], _∷_}
 use lib.Dec.{eqb, leb, ltb}
@@ -8,7 +8,6 @@ use lib.ListN.{take, drop}
 use Rattle.number.specs.Sign.{squareOf}
 use Rattle.card.specs.declared.Card.{Card}
 use Rattle.sample.specs.Sample.{every24}
-use Rattle.alarm.specs.declared.Watch.{Watch}
 use Rattle.halfcycle.specs.declared.Passed.{Passed}
 use Rattle.alarm.specs.Alarms.{Watching, seenWith}
 

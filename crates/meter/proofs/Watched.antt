@@ -1,24 +1,21 @@
 -- The samples of a block pass the watch with at most two cards: the one in force, and from the next interval on the one behind it.
-use Prim.Native.Nat.{ℕ, zero, suc, _-_, _≤_, _<_}
-use mathlib.Core.Path.{_≡_, refl, sym, ap, ap₂, subst, _∙_}
+use Prim.Native.Nat.{ℕ, zero, suc, _-_, _<_}
+use mathlib.Core.Path.{_≡_, refl, sym, ap, ap₂, _∙_}
 use mathlib.Core.Bool.{Bool, true, false, cond}
 use mathlib.Core.List.{List, [], _∷_, map}
-use native.Mathlib.Nat.{suc-inj}
 use native.Mathlib.Omega.{arith}
 use lib.Dec.{eqb}
 use lib.IntN.{ℤ}
 use lib.ListN.{length, take, drop, length-take, length-drop}
 use borrow.Author.Tests.{eqb-true, eqb-false, eq-eqb, ne-eqb}
-use Rattle.steps.specs.Gauge.{Meter, waitOver, workedOn, begun, closing, joins, sample, watches}
+use Rattle.steps.specs.Gauge.{Meter, waitOver, workedOn, closing, joins, sample, watches}
 use Rattle.card.specs.declared.Card.{Card}
-use Rattle.interval.specs.declared.Closed.{Closed}
 use Rattle.sample.specs.Sums.{Sample, samplesIn}
 use Rattle.alarm.specs.Alarms.{Watching, seenWith}
 use Rattle.halfcycle.specs.Passing.{seenAll, seenBy}
 use Rattle.halfcycle.proofs.Parts.{seen-none}
-use Rattle.meter.specs.declared.Work.{Work}
 use Rattle.meter.specs.declared.Meter.{Meter as Kept}
-use Rattle.meter.specs.Core.{core, meterOf, withSums, closedWork}
+use Rattle.meter.specs.Core.{core, meterOf, closedWork}
 use Rattle.meter.specs.Inside.{cardBehind, turnOf}
 
 -- the raw voltages of samples

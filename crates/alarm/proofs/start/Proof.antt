@@ -1,11 +1,10 @@
 -- `start` meets its contract.
 use mathlib.Core.Path.{_≡_, sym, ap₂, _∙_}
-use mathlib.Core.Bool.{true, _&&_}
+use mathlib.Core.Bool.{_&&_}
 use mir.Syntax.{w64}
 use mir.Val.{SFits}
 use mir.Facts.{toZ-ofZ}
-use Rattle.alarm.specs.Masks.{onlyAlarms}
-use Rattle.alarm.specs.Starting.{numbersOk, askedOk, startOf}
+use Rattle.alarm.specs.Starting.{askedOk, startOf}
 use borrow.Author.Needs.{needs}
 use Rattle.sample.proofs.Tests.{both-of}
 use Rattle.alarm.proofs.start.Statement.{statement}

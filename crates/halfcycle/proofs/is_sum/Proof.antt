@@ -1,12 +1,11 @@
 -- `is_sum` meets its contract. The loop gathers the tests, and the squares of the voltages as they are clipped.
-use Prim.Native.Nat.{ℕ, _+_, _*_, _-_, _^_, _≤_, _<_}
+use Prim.Native.Nat.{_+_, _*_, _-_, _^_, _≤_, _<_}
 use native.Mathlib.Omega.{arith}
 use mathlib.Core.Path.{_≡_, refl, sym, ap, _∙_}
-use mathlib.Core.Bool.{Bool, true, false, _&&_, and-assoc, and-true}
+use mathlib.Core.Bool.{Bool, _&&_, and-assoc, and-true}
 use borrow.Author.Needs.{needs}
 use denote.Ref.{now}
-use lib.Dec.{eqb}
-use lib.IntN.{ℤ, pos}
+use lib.IntN.{pos}
 use lib.ListN.{length, drop, getD}
 use mir.Syntax.{w32}
 use mir.Val.{SFits}
@@ -17,7 +16,6 @@ use Rattle.number.proofs.Fits.{widen}
 use Rattle.range.proofs.Ranges.{clipped-in, in-fits}
 use Rattle.sample.specs.Sample.{every24}
 use Rattle.sample.proofs.Ranges.{every-more, every-end}
-use Rattle.halfcycle.specs.Passing.{squares}
 use Rattle.halfcycle.proofs.Sums.{clippedSquares, clipped-more, clipped-end, clipped-small, same-sum}
 use Rattle.halfcycle.proofs.is_sum.Statement.{statement}
 use Rattle.halfcycle.proofs.is_sum.Tie as tie

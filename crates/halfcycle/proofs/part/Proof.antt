@@ -9,7 +9,7 @@ use Rattle.halfcycle.specs.declared.Track.{Track}
 use Rattle.halfcycle.specs.declared.Levels.{Levels}
 use Rattle.alarm.specs.Alarms.{both}
 use Rattle.halfcycle.specs.Passing.{seenAll}
-use Rattle.halfcycle.specs.Inside.{Swing, swing, sweptAll, levelsOf, trackOf}
+use Rattle.halfcycle.specs.Inside.{swing, sweptAll, levelsOf, trackOf}
 use Rattle.halfcycle.proofs.Windows.{kept-most}
 use Rattle.halfcycle.proofs.Parts.{seen-none, good-all, sweepFrom, settled, runs-all}
 use Rattle.halfcycle.proofs.part.Statement.{statement}

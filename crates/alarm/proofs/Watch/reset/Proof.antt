@@ -1,8 +1,7 @@
 -- `reset` meets its contract.
 use mathlib.Core.Path.{_≡_, sym, _∙_}
-use mathlib.Core.Bool.{true, false}
 use mir.Facts.{toZ-ofZ}
-use Rattle.alarm.specs.Masks.{onlyAlarms, namedBy}
+use Rattle.alarm.specs.Masks.{onlyAlarms}
 use Rattle.alarm.specs.Alarms.{clearedOf, clearing, resetOf}
 use borrow.Author.Needs.{needs}
 use Rattle.alarm.proofs.Watch.reset.Statement.{statement}
