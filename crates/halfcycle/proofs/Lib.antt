@@ -1,6 +1,5 @@
 -- Laws of the window and the alarms.
 pub mod Windows
-pub mod Sums
 pub mod Comparing
 pub mod Parts
 pub mod Tests

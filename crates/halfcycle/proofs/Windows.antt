@@ -48,6 +48,15 @@ squares-most (x ∷ l) e =
     let h = both-of (in24 x) (every24 l) e in
     omega (arith, square24 x (mag24 x (h .0)), squares-most l (h .1))
 
+-- from some place on: one of them, and those behind it
+pub squares-more : (l : List ℤ) (k : ℕ) → k < length l → squares (drop k l) ≡ squareOf (getD l k (pos 0)) + squares (drop (k + 1) l)
+unfolding squares
+squares-more l k h = rw (add-one, drop-cons l k (pos 0) h)
+
+pub squares-end : (l : List ℤ) (k : ℕ) → length l ≤ k → squares (drop k l) ≡ 0
+unfolding squares
+squares-end l k h = rw (drop-of-length-le l {i = k} h)
+
 -- ---- voltages of the range
 
 in24-yes : (z : ℤ) → mag z < 8388608 → in24 z ≡ true

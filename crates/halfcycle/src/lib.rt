@@ -1,6 +1,6 @@
 // The half cycle: the last W corrected voltages with the sum of their squares, and what they make of the alarms.
 ghost use mathlib.Core.Path.{_≡_};
-ghost use mathlib.Core.Bool.{_&&_};
+ghost use mathlib.Core.Bool.{true, _&&_};
 ghost use Prim.Native.Nat.{_+_, _*_, _^_, _≤_, _<_, min};
 ghost use lib.Dec.{eqb};
 ghost use lib.ListN.{length};
@@ -184,21 +184,29 @@ fn see(a: Watch, volts: &mut [i32; 512], c: Card, v: &[i32]) -> Watch
     part(b, volts, c, true, &v[blank..])
 }
 
-// Whether the sum is that of the squares of the voltages, all of the 24-bit range: one pass. (Of a clipped voltage, whose square is small.)
+// The sum of the squares of voltages of the 24-bit range.
+fn sum_of(volts: &[i32]) -> u64
+    requires { ⌜ (length (now volts) ≡ 512) × (every24 (now volts) ≡ true) ⌝ }
+    ensures { λ r. ⌜ r ≡ squares (now (volts .entry)) ⌝ }
+{
+    let mut total: u64 = 0;
+    let mut k: usize = 0;
+    while k < 512 {
+        total += number::square(volts[k]);
+        k += 1;
+    }
+    total
+}
+
+// Whether the sum is that of the squares of the voltages, all of the 24-bit range: one pass for each.
 fn is_sum(sum: u64, volts: &[i32]) -> bool
     requires { ⌜ length (now volts) ≡ 512 ⌝ }
     ensures { λ r. ⌜ r ≡ (every24 (now (volts .entry)) && eqb sum (squares (now (volts .entry)))) ⌝ }
 {
-    let mut ok = true;
-    let mut total: u64 = 0;
-    let mut k: usize = 0;
-    while k < 512 {
-        let x = volts[k];
-        ok = ok & range::in_range(x);
-        total += number::square(range::clip(x as i64));
-        k += 1;
+    if sample::all_in_range(volts) {
+        return sum == sum_of(volts);
     }
-    ok & (sum == total)
+    false
 }
 
 // Whether steps can have made the watch: no number can overflow, and the sum is that of the voltages.

@@ -45,20 +45,21 @@ fn probe_of(c: Card) -> Probe
     }
 }
 
-// A sample of corrected voltage v and corrected current i joins a source's sums.
-fn join(f: Flow, v: i32, i: i32) -> Flow
+// A sample of corrected voltage v and corrected current i joins a source's sums. (i stays as wide as the mix left it: the loop then widens
+// nothing twice.)
+fn join(f: Flow, v: i32, i: i64) -> Flow
     requires { ⌜ Flowing f 4096 × (mag v < 8388608) × (mag i < 8388608) ⌝ }
     ensures { λ r. ⌜ r ≡ joined f v i ⌝ }
 {
-    let z = number::size(i as i64) as u32;
+    let z = number::size(i) as u32;
     let k = f.peak;
     let mut peak = k;
     if k < z {
         peak = z;
     }
     Flow {
-        ii: f.ii + number::square(i),
-        vi: f.vi + number::product(v, i),
+        ii: f.ii + (i * i) as u64,
+        vi: f.vi + v as i64 * i,
         peak,
     }
 }
@@ -110,7 +111,7 @@ fn count(n: u32, v: bool, i: bool) -> u32
 }
 
 // v the corrected voltage, i the current corrected and mixed, and whether it was clipped before it was mixed.
-fn add(t: Tally, v: Corrected, i: i32, clipped: bool) -> Tally
+fn add(t: Tally, v: Corrected, i: i64, clipped: bool) -> Tally
     requires { ⌜ Small t × (mag (v .value) < 8388608) × (mag i < 8388608) ⌝ }
     ensures { λ r. ⌜ r ≡ joinedTo t (v .value) i (v .clipped) clipped ⌝ }
 {
@@ -131,7 +132,7 @@ fn take(t: Tally, p: Probe, v: i32, now: Corrected, old: i32) -> Tally
 {
     let cv = correct(v, p.voffs, p.vgain);
     let m = mix(p.phase, now.value, old);
-    add(t, cv, m as i32, now.clipped)
+    add(t, cv, m, now.clipped)
 }
 
 // The corrected current before a sample whose raw current is raw.

@@ -7,7 +7,6 @@ use mir.Syntax.{w32, w64}
 use mir.Val.{SFits}
 use mir.Facts.{toZ-ofZ}
 use Rattle.sample.specs.Sample.{correction, mixed}
-use Rattle.range.proofs.Ranges.{in-fits, in-mag}
 use Rattle.sample.proofs.Corrections.{mixed-in, corrected-in}
 use borrow.Author.Needs.{needs, sfits-of}
 use Rattle.summing.proofs.take.Statement.{statement}
@@ -46,21 +45,17 @@ mix-in c =
 mix-fits : (c : tie.After-mix) → SFits w64 (c .mix .result)
 mix-fits c = sfits-of (c .mix .ok)
 
-cast-add : tie.Need-cast-add
-cast-add c = rw (toZ-ofZ (mix-fits c)) (in-fits (in-mag (c .mix .result) (mix-in c)))
-
 add-requires : tie.Need-add-requires
 add-requires c κs =
     let s = c .before .before .before .before .before in
-    rw (toZ-ofZ (mix-fits c), toZ-ofZ (in-fits (in-mag (c .mix .result) (mix-in c))))
-    (s .pre .0, voltage-in (c .before .before), mix-in c)
+    rw (toZ-ofZ (mix-fits c)) (s .pre .0, voltage-in (c .before .before), mix-in c)
 
 returns : tie.Need-returns
 unfolding correction
 returns c =
     let m = c .before in
     let v = m .before .before in
-    rw (toZ-ofZ (mix-fits m), toZ-ofZ (in-fits (in-mag (m .mix .result) (mix-in m))), mix-is m, voltage-is v) at (c .add .ensures)
+    rw (toZ-ofZ (mix-fits m), mix-is m, voltage-is v) at (c .add .ensures)
 
 pub take-spec : {M : Type 1} → statement M
-take-spec = tie.close (tie.spec correct-requires mix-requires cast-add add-requires returns)
+take-spec = tie.close (tie.spec correct-requires mix-requires add-requires returns)
