@@ -1,15 +1,15 @@
 -- The window: the kept sum is that of the voltages, whatever takes the place of the oldest.
 use Prim.Native.Nat.{ℕ, zero, suc, _+_, _*_, _-_, _^_, _≤_, _<_}
-use mathlib.Core.Path.{_≡_, refl, sym, ap, ap₂, _∙_}
+use mathlib.Core.Path.{_≡_, refl, ap, ap₂, _∙_}
 use mathlib.Core.Bool.{Bool, true, false, cond, _&&_}
-use mathlib.Core.List.{List, [], _∷_, _++_}
+use mathlib.Core.List.{List, [], _∷_}
 use native.Mathlib.Nat.{not-suc-le-zero}
 use native.Mathlib.Numerals.{add-one}
 use native.Mathlib.Omega.{arith}
 use lib.Dec.{eqb, lit<}
 use lib.IntN.{ℤ, pos, negsuc}
-use lib.ListN.{length, getD, set, take, drop, length-set, drop-of-length-le, take-append-drop}
-use lib.Seq.{drop-cons, drop-drop}
+use lib.ListN.{length, getD, set, drop, length-set, drop-of-length-le}
+use lib.Seq.{drop-cons}
 use lib.Signed.{mag}
 use borrow.Author.Tests.{eqb-false, le-leb}
 use Rattle.number.specs.Sign.{squareOf}
@@ -119,26 +119,3 @@ swept-step p q v k h = rw (add-one, drop-cons v k (pos 0) h)
 pub swept-end : (p : Track) (q : Swing) (v : List ℤ) (k : ℕ) → length v ≤ k → sweptAll p q (drop k v) ≡ q
 unfolding sweptAll
 swept-end p q v k h = rw (drop-of-length-le v {i = k} h)
-
--- ---- several at a time
-
-pub kept-all : (p : Track) (vs : List ℤ) (q : Swing) → Kept (p .w) (q .sweep .at) (q .sweep .sum) (q .volts) →
-    let r = sweptAll p q vs in Kept (p .w) (r .sweep .at) (r .sweep .sum) (r .volts)
-unfolding sweptAll
-kept-all p [] q h = h
-kept-all p (v ∷ vs) q h = kept-all p vs (swept p q v) (kept-swept p q v h)
-
-swept-append : (p : Track) (us vs : List ℤ) (q : Swing) → sweptAll p q (us ++ vs) ≡ sweptAll p (sweptAll p q us) vs
-unfolding sweptAll
-swept-append p [] vs q = refl
-swept-append p (u ∷ us) vs q = swept-append p us vs (swept p q u)
-
--- those from one place to another, and those behind them
-pub swept-part : (p : Track) (q : Swing) (v : List ℤ) (k to : ℕ) → k ≤ to → sweptAll p (sweptAll p q (take (to - k) (drop k v))) (drop to v) ≡ sweptAll p q (drop k v)
-swept-part p q v k to h =
-    let n = to - k in
-    let reach : k + n ≡ to = omega arith in
-    ap (λ (j : ℕ). sweptAll p (sweptAll p q (take n (drop k v))) (drop j v)) (sym reach)
-    ∙ ap (sweptAll p (sweptAll p q (take n (drop k v)))) (sym (drop-drop n k v))
-    ∙ sym (swept-append p (take n (drop k v)) (drop n (drop k v)) q)
-    ∙ ap (sweptAll p q) (take-append-drop n (drop k v))

@@ -67,32 +67,22 @@ fn step_on(volts: &mut [i32; 512], t: Sweep, p: Track, raw: i32) -> Sweep
     moved(t, p.w, new, old)
 }
 
-// Voltages, one after another.
+// Voltages, one after another. (Two a turn: the compiler then clips without a branch.)
 fn slide(volts: &mut [i32; 512], s: Sweep, p: Track, v: &[i32]) -> Sweep
     requires { ⌜ Kept (p .w) (s .at) (s .sum) (now volts) ⌝ }
     ensures { λ r. ⌜ swing r (now (volts .exit)) ≡ sweptAll p (swing s (now (volts .entry))) (now (v .entry)) ⌝ }
 {
     let mut t = s;
     let mut k: usize = 0;
-    while k < v.len() {
+    while k < v.len() - v.len() % 2 {
         t = step_on(volts, t, p, v[k]);
-        k += 1;
+        t = step_on(volts, t, p, v[k + 1]);
+        k += 2;
+    }
+    if k < v.len() {
+        return step_on(volts, t, p, v[k]);
     }
     t
-}
-
-// The same, eight a turn: since their number is known, the compiler writes them out, and clips without a branch.
-fn slide_all(volts: &mut [i32; 512], s: Sweep, p: Track, v: &[i32]) -> Sweep
-    requires { ⌜ Kept (p .w) (s .at) (s .sum) (now volts) ⌝ }
-    ensures { λ r. ⌜ swing r (now (volts .exit)) ≡ sweptAll p (swing s (now (volts .entry))) (now (v .entry)) ⌝ }
-{
-    let mut t = s;
-    let mut k: usize = 0;
-    while k < v.len() - v.len() % 8 {
-        t = slide(volts, t, p, &v[k..k + 8]);
-        k += 8;
-    }
-    slide(volts, t, p, &v[k..])
 }
 
 // W times a level squared.
@@ -161,7 +151,7 @@ fn part(a: Watch, volts: &mut [i32; 512], c: Card, full: bool, v: &[i32]) -> Wat
         least: 18446744073709551615,
         most: 0,
     };
-    let t = slide_all(volts, s, p, v);
+    let t = slide(volts, s, p, v);
     let seen = seen_after(limits.w, a.seen, v.len());
     let l = levels_of(limits, full);
     let alarms = Alarms {

@@ -24,9 +24,9 @@ track-of-requires c κs = search needs
 cast-seen-after : tie.Need-cast-seen-after
 cast-seen-after c = search needs
 
-slide-all-requires : tie.Need-slide-all-requires
+slide-requires : tie.Need-slide-requires
 unfolding trackOf
-slide-all-requires c κs = rw (c .before .before .track-of .ensures) (c .before .before .before .before .before .pre .0 .kept)
+slide-requires c κs = rw (c .before .before .track-of .ensures) (c .before .before .before .before .before .pre .0 .kept)
 
 seen-after-requires : tie.Need-seen-after-requires
 seen-after-requires c κs = search needs
@@ -35,10 +35,10 @@ levels-of-requires : tie.Need-levels-of-requires
 levels-of-requires c κs = search needs
 
 -- what the loop leaves is what the voltages come to one after another
-taken : (c : tie.After-slide-all) →
+taken : (c : tie.After-slide) →
     let a = c .before .before .before .before .before .before .args in
     seenAll (a .c) (both (a .a) (now (a .volts))) (now (a .v)) ≡
-    settled (a .a .limits) (levelsOf (a .a .limits) (a .full)) (a .a .alarms) (min (a .a .limits .w) (a .a .seen + length (now (a .v)))) (swing (c .slide-all .result) (c .slide-all .last .0))
+    settled (a .a .limits) (levelsOf (a .a .limits) (a .full)) (a .a .alarms) (min (a .a .limits .w) (a .a .seen + length (now (a .v)))) (swing (c .slide .result) (c .slide .last .0))
 taken c =
     let track = c .before .before .before in
     let start = track .before .before .before in
@@ -47,7 +47,7 @@ taken c =
     let some : 0 < length (now (a .v)) = omega (arith, track .before .before .if1 .left) in
     let made = settled (a .a .limits) (levelsOf (a .a .limits) (a .full)) (a .a .alarms) n in
     runs-all (a .c) (a .full) (now (a .v)) (a .a) (now (a .volts)) some (start .pre .0) (start .pre .1)
-    ∙ sym (ap made (c .slide-all .ensures)
+    ∙ sym (ap made (c .slide .ensures)
     ∙ ap (λ (p : Track). made (sweptAll p (swing (sweepFrom (a .a) 18446744073709551615 0) (now (a .volts))) (now (a .v)))) (track .track-of .ensures))
 
 cast-t25 : tie.Need-cast-t25
@@ -63,7 +63,7 @@ returns-2 c =
     let n = l .before in
     let s = n .before in
     let a = s .before .before .before .before .before .before .args in
-    ap₂ (λ (z : Levels) (k : ℕ). settled (a .a .limits) z (a .a .alarms) k (swing (s .slide-all .result) (s .slide-all .last .0))) (l .levels-of .ensures) (n .seen-after .ensures)
+    ap₂ (λ (z : Levels) (k : ℕ). settled (a .a .limits) z (a .a .alarms) k (swing (s .slide .result) (s .slide .last .0))) (l .levels-of .ensures) (n .seen-after .ensures)
     ∙ sym (taken s)
 
 pub part-spec : {M : Type 1} → statement M
@@ -73,7 +73,7 @@ part-spec =
     returns
     track-of-requires
     cast-seen-after
-    slide-all-requires
+    slide-requires
     seen-after-requires
     levels-of-requires
     cast-t25

@@ -1,5 +1,5 @@
 -- `slide` meets its contract. The loop keeps the window: what it holds, and the voltages that are left, come to what all of them do.
-use Prim.Native.Nat.{_+_, _-_, _≤_}
+use Prim.Native.Nat.{ℕ, _+_, _-_, _%_, _≤_}
 use native.Mathlib.Omega.{arith}
 use mathlib.Core.Path.{_≡_, refl, sym, ap, subst, _∙_}
 use borrow.Author.Needs.{needs}
@@ -16,13 +16,16 @@ use Rattle.halfcycle.proofs.slide.Tie as tie
 
 abbrev Inv-loop : tie.InvT-loop
 Inv-loop volts₀ p v t₀ k₀ volts t k =
-    (k ≤ length v) × Kept (p .w) (t .at) (t .sum) volts × (sweptAll p (swing t volts) (drop k v) ≡ sweptAll p (swing t₀ volts₀) v)
+    (k ≤ length v - length v % 2) × (k % 2 ≡ 0) × Kept (p .w) (t .at) (t .sum) volts × (sweptAll p (swing t volts) (drop k v) ≡ sweptAll p (swing t₀ volts₀) v)
 
 abbrev μ-loop : tie.MeasureT-loop
 μ-loop volts₀ p v t₀ k₀ volts t k = length v - k
 
 loop-holds : tie.Need-loop-holds Inv-loop μ-loop
-loop-holds c = (omega arith, c .pre, refl)
+loop-holds c = (omega arith, omega arith, c .pre, refl)
+
+sub-loop : tie.Need-sub-loop Inv-loop μ-loop
+sub-loop c = omega arith
 
 mul-step-on : tie.Need-mul-step-on Inv-loop μ-loop
 mul-step-on c = search needs
@@ -31,17 +34,52 @@ shared-slice-copy-out-step-on : tie.Need-shared-slice-copy-out-step-on Inv-loop 
 shared-slice-copy-out-step-on c = search needs
 
 step-on-requires : tie.Need-step-on-requires Inv-loop μ-loop
-step-on-requires c κs = c .before .before .before .loop .inv .1
+step-on-requires c κs = c .before .before .before .loop .inv .2
 
-raw-fits : (c : tie.After-step-on-arg2 Inv-loop μ-loop) → SFits w32 (getD (now (c .before .before .before .before .args .v)) (c .before .before .before .loop .k) (pos 0))
-raw-fits c = search needs
+-- what one voltage leaves, and the second
+first-fits : (c : tie.After-step-on-arg2 Inv-loop μ-loop) → SFits w32 (getD (now (c .before .before .before .before .args .v)) (c .before .before .before .loop .k) (pos 0))
+first-fits c = search needs
 
--- what one voltage leaves
-stepped : (c : tie.After-step-on Inv-loop μ-loop) →
+first : (c : tie.After-step-on Inv-loop μ-loop) →
     let top = c .before .before .before .before in
     let a = top .before .args in
     swing (c .step-on .result) (c .step-on .last .0) ≡ swept (a .p) (swing (top .loop .t) (top .loop .volts)) (getD (now (a .v)) (top .loop .k) (pos 0))
-stepped c = rw (toZ-ofZ (raw-fits (c .before))) at (c .step-on .ensures)
+first c = rw (toZ-ofZ (first-fits (c .before))) at (c .step-on .ensures)
+
+first-kept : (c : tie.After-step-on Inv-loop μ-loop) → Kept (c .before .before .before .before .before .args .p .w) (c .step-on .result .at) (c .step-on .result .sum) (c .step-on .last .0)
+first-kept c =
+    let top = c .before .before .before .before in
+    let a = top .before .args in
+    subst (λ (q : Swing). Kept (a .p .w) (q .sweep .at) (q .sweep .sum) (q .volts)) (sym (first c))
+    (kept-swept (a .p) (swing (top .loop .t) (top .loop .volts)) (getD (now (a .v)) (top .loop .k) (pos 0)) (top .loop .inv .2))
+
+add-step-on : tie.Need-add-step-on Inv-loop μ-loop
+add-step-on c = search needs
+
+mul-step-on-2 : tie.Need-mul-step-on-2 Inv-loop μ-loop
+mul-step-on-2 c = search needs
+
+shared-slice-copy-out-step-on-2 : tie.Need-shared-slice-copy-out-step-on-2 Inv-loop μ-loop
+shared-slice-copy-out-step-on-2 c = search needs
+
+step-on-requires-2 : tie.Need-step-on-requires-2 Inv-loop μ-loop
+step-on-requires-2 c κs = first-kept (c .before .before)
+
+second-fits : (c : tie.After-step-on-arg4 Inv-loop μ-loop) →
+    SFits w32 (getD (now (c .before .before .before .before .before .before .before .args .v)) (c .before .before .before .before .before .before .loop .k + 1) (pos 0))
+second-fits c = search needs
+
+second : (c : tie.After-step-on2 Inv-loop μ-loop) →
+    let f = c .before .before .before in
+    let top = f .before .before .before .before in
+    let a = top .before .args in
+    swing (c .step-on2 .result) (c .step-on2 .last .0) ≡
+    swept (a .p) (swept (a .p) (swing (top .loop .t) (top .loop .volts)) (getD (now (a .v)) (top .loop .k) (pos 0))) (getD (now (a .v)) (top .loop .k + 1) (pos 0))
+second c =
+    let f = c .before .before .before in
+    let top = f .before .before .before .before in
+    let a = top .before .args in
+    (rw (toZ-ofZ (second-fits (c .before))) at (c .step-on2 .ensures)) ∙ ap (λ (q : Swing). swept (a .p) q (getD (now (a .v)) (top .loop .k + 1) (pos 0))) (first f)
 
 add-k : tie.Need-add-k Inv-loop μ-loop
 add-k c = search needs
@@ -51,24 +89,61 @@ loop-less c = search needs
 
 loop-again : tie.Need-loop-again Inv-loop μ-loop
 loop-again c =
-    let top = c .before .before .before .before in
+    let f = c .before .before .before in
+    let top = f .before .before .before .before in
     let a = top .before .args in
     let v = now (a .v) in
     let k = top .loop .k in
     let i = top .loop .inv in
-    let t = c .before .before .before .loop-test .taken in
+    let t = f .before .before .before .loop-test .taken in
     let q = swing (top .loop .t) (top .loop .volts) in
-    let e = stepped c in (
-      omega (arith, t),
-      subst (λ (q : Swing). Kept (a .p .w) (q .sweep .at) (q .sweep .sum) (q .volts)) (sym e) (kept-swept (a .p) q (getD v k (pos 0)) (i .1)),
-      ap (λ (z : Swing). sweptAll (a .p) z (drop (k + 1) v)) e ∙ sym (swept-step (a .p) q v k t) ∙ i .2,
+    let x = getD v k (pos 0) in
+    let y = getD v (k + 1) (pos 0) in
+    let r = swept (a .p) (swept (a .p) q x) y in
+    let two : k + 2 ≡ (k + 1) + 1 = omega arith in
+    let e = second c in (
+      omega (arith, i .0, i .1, t),
+      omega (arith, i .1),
+      subst (λ (q : Swing). Kept (a .p .w) (q .sweep .at) (q .sweep .sum) (q .volts)) (sym e) (kept-swept (a .p) (swept (a .p) q x) y (kept-swept (a .p) q x (i .2))),
+      ap (λ (z : Swing). sweptAll (a .p) z (drop (k + 2) v)) e
+          ∙ ap (λ (n : ℕ). sweptAll (a .p) r (drop n v)) two
+          ∙ sym (swept-step (a .p) (swept (a .p) q x) v (k + 1) (omega (arith, i .0, i .1, t)))
+          ∙ sym (swept-step (a .p) q v k (omega (arith, t)))
+          ∙ i .3,
     )
+
+mul-step-on-3 : tie.Need-mul-step-on-3 Inv-loop μ-loop
+mul-step-on-3 c = search needs
+
+shared-slice-copy-out-step-on-3 : tie.Need-shared-slice-copy-out-step-on-3 Inv-loop μ-loop
+shared-slice-copy-out-step-on-3 c = search needs
+
+step-on-requires-3 : tie.Need-step-on-requires-3 Inv-loop μ-loop
+step-on-requires-3 c κs = c .before .before .before .before .loop .inv .2
+
+last-fits : (c : tie.After-step-on-arg6 Inv-loop μ-loop) → SFits w32 (getD (now (c .before .before .before .before .before .args .v)) (c .before .before .before .before .loop .k) (pos 0))
+last-fits c = search needs
 
 returns : tie.Need-returns Inv-loop μ-loop
 returns c =
-    let top = c .before in
+    let t = c .before .before .before in
+    let top = t .before .before in
     let a = top .before .args in
-    sym (swept-end (a .p) (swing (top .loop .t) (top .loop .volts)) (now (a .v)) (top .loop .k) (c .loop-test .left)) ∙ top .loop .inv .2
+    let v = now (a .v) in
+    let k = top .loop .k in
+    let i = top .loop .inv in
+    let q = swing (top .loop .t) (top .loop .volts) in
+    let x = getD v k (pos 0) in
+    (rw (toZ-ofZ (last-fits (c .before))) at (c .step-on3 .ensures))
+    ∙ sym (swept-end (a .p) (swept (a .p) q x) v (k + 1) (omega (arith, i .0, t .before .loop-test .left)))
+    ∙ sym (swept-step (a .p) q v k (t .if1 .taken))
+    ∙ i .3
+
+returns-2 : tie.Need-returns-2 Inv-loop μ-loop
+returns-2 c =
+    let top = c .before .before in
+    let a = top .before .args in
+    sym (swept-end (a .p) (swing (top .loop .t) (top .loop .volts)) (now (a .v)) (top .loop .k) (c .if1 .left)) ∙ top .loop .inv .3
 
 pub slide-spec : {M : Type 1} → statement M
 slide-spec =
@@ -77,10 +152,19 @@ slide-spec =
     Inv-loop
     μ-loop
     loop-holds
+    sub-loop
     mul-step-on
     shared-slice-copy-out-step-on
     step-on-requires
+    add-step-on
+    mul-step-on-2
+    shared-slice-copy-out-step-on-2
+    step-on-requires-2
     add-k
     loop-less
     loop-again
-    returns)
+    mul-step-on-3
+    shared-slice-copy-out-step-on-3
+    step-on-requires-3
+    returns
+    returns-2)
