@@ -1,6 +1,6 @@
 // The half cycle: the last W corrected voltages with the sum of their squares, and what they make of the alarms.
 ghost use mathlib.Core.Path.{_≡_};
-ghost use mathlib.Core.Bool.{true, _&&_};
+ghost use mathlib.Core.Bool.{_&&_};
 ghost use Prim.Native.Nat.{_+_, _*_, _^_, _≤_, _<_, min};
 ghost use lib.Dec.{eqb};
 ghost use lib.ListN.{length};
@@ -67,7 +67,7 @@ fn step_on(volts: &mut [i32; 512], t: Sweep, p: Track, raw: i32) -> Sweep
     moved(t, p.w, new, old)
 }
 
-// Voltages, one after another. (Two a turn: the compiler then clips without a branch.)
+// Voltages, one after another. (Two a turn are quicker than one; with four the compiler would clip by a branch.)
 fn slide(volts: &mut [i32; 512], s: Sweep, p: Track, v: &[i32]) -> Sweep
     requires { ⌜ Kept (p .w) (s .at) (s .sum) (now volts) ⌝ }
     ensures { λ r. ⌜ swing r (now (volts .exit)) ≡ sweptAll p (swing s (now (volts .entry))) (now (v .entry)) ⌝ }
@@ -184,29 +184,22 @@ fn see(a: Watch, volts: &mut [i32; 512], c: Card, v: &[i32]) -> Watch
     part(b, volts, c, true, &v[blank..])
 }
 
-// The sum of the squares of voltages of the 24-bit range.
-fn sum_of(volts: &[i32]) -> u64
-    requires { ⌜ (length (now volts) ≡ 512) × (every24 (now volts) ≡ true) ⌝ }
-    ensures { λ r. ⌜ r ≡ squares (now (volts .entry)) ⌝ }
-{
-    let mut total: u64 = 0;
-    let mut k: usize = 0;
-    while k < 512 {
-        total += number::square(volts[k]);
-        k += 1;
-    }
-    total
-}
-
-// Whether the sum is that of the squares of the voltages, all of the 24-bit range: one pass for each.
+// Whether the sum is that of the squares of the voltages, all of the 24-bit range: one pass.
 fn is_sum(sum: u64, volts: &[i32]) -> bool
     requires { ⌜ length (now volts) ≡ 512 ⌝ }
     ensures { λ r. ⌜ r ≡ (every24 (now (volts .entry)) && eqb sum (squares (now (volts .entry)))) ⌝ }
 {
-    if sample::all_in_range(volts) {
-        return sum == sum_of(volts);
+    let mut total: u64 = 0;
+    let mut k: usize = 0;
+    while k < 512 {
+        let x = volts[k];
+        if !range::in_range(x) {
+            return false;
+        }
+        total += number::square(x);
+        k += 1;
     }
-    false
+    sum == total
 }
 
 // Whether steps can have made the watch: no number can overflow, and the sum is that of the voltages.
