@@ -7,7 +7,8 @@ use Rattle.steps.specs.Answers.{OrRefusal, refused, accepted, andThen, orAsBefo
 use Rattle.steps.specs.Module.{State}
 use Rattle.steps.specs.Run.{run}
 use Rattle.steps.specs.OneCard.{Tagged, Interval, tagged, intervals, outset, placeAfter}
-use Rattle.steps.specs.Watching.{Mark, seen, named, marked, meets, sampled, withCards, withCardIf}
+use Rattle.steps.specs.Shorter.{struck}
+use Rattle.steps.specs.Watching.{Mark, seen, named, marked, meets, sampled, withCards, withCardIf, namedOf, resetsOf}
 use Rattle.sample.specs.Sample.{voltage}
 use Rattle.alarm.specs.declared.Watch.{Watch}
 use Rattle.alarm.specs.Alarms.{Watching, both, seenWith, clearing}
@@ -17,9 +18,10 @@ use Rattle.meter.specs.Core.{core, resetWatch}
 use Rattle.aberzhan.specs.declared.Module.{Module}
 use Rattle.aberzhan.specs.Ports.{ports, aberzhan}
 use Rattle.aberzhan.specs.Module.{watchOf, freshModule}
+use Rattle.aberzhan.specs.Calls.{stateOf}
 use Rattle.demands.specs.Program.{first, limits, steps, ran}
 use Rattle.demands.specs.Intervals.{samplesWithCards}
-use Rattle.demands.specs.Alarms.{openOf, correctedOf, cameAs, cameOf, EveryAlarm}
+use Rattle.demands.specs.Alarms.{openOf, correctedOf, cameAs, masksOf, cameOf, EveryAlarm}
 use Rattle.demands.proofs.Demand3.{OfFresh, of-start, module-demand3}
 use Rattle.demands.proofs.Wholes.{cut-from}
 
@@ -46,6 +48,12 @@ sampled-volts [] = refl
 sampled-volts (seen c x ∷ ms) = ap (λ (l : List ℤ). voltage c (x .0) ∷ l) (sampled-volts ms)
 sampled-volts (named mask ∷ ms) = sampled-volts ms
 
+-- ---- and the resets
+named-masks : (ms : List (Mark core)) → masksOf (map cameAs ms) ≡ namedOf core ms
+named-masks [] = refl
+named-masks (seen c x ∷ ms) = named-masks ms
+named-masks (named mask ∷ ms) = ap (λ (l : List ℤ). mask ∷ l) (named-masks ms)
+
 -- ---- from a start
 record Unwatched (z : Module) : Type 0 where
   means : (r : List Came) → Meant (z .watch .limits) r (foldl metBy (watchOf z) r)
@@ -68,12 +76,16 @@ every-alarm p =
     let ts = tagged core ports none h in
     sampled core (marked core ports none h (outset core (z .meter .work))) ≡ withCards core (intervals core ts (outset core (z .meter .work))) ++ withCardIf core (placeAfter core ts (outset core (z .meter .work)) .running))
     (sym (d .begins)) (d .promise .marks-are) in
+    let masks : namedOf core ms ≡ resetsOf core ports (struck aberzhan (steps p) (stateOf z)) =
+    subst (λ (s : State aberzhan). namedOf core (marked core ports none (run aberzhan (steps p) s .history) (outset core (z .meter .work))) ≡ resetsOf core ports (struck aberzhan (steps p) s))
+    (sym (d .begins)) (d .promise .resets-are) in
     let end : watchOf (p .log .end) ≡ foldl metBy (watchOf z) (cameOf p) = ap (λ (s : State aberzhan). s .meter .watch) (d .calls .end) ∙ from-begin ∙ all-meet ms (watchOf z) in
     let m = of-start Unwatched fresh-unwatched p .means (cameOf p) in
     let voltages : voltagesOf (cameOf p) ≡ correctedOf p =
     sampled-volts ms ∙ ap (map volt) (marks ∙ ap (λ (is : List (Interval core)). withCards core is ++ withCardIf core (openOf p)) (cut-from p)) in
     record {
       voltages = voltages;
+      resets = named-masks ms ∙ masks;
       sum = ap (λ (q : Watching). q .watch .sum) end ∙ m .sum ∙ ap (lastSquares (limits p .w)) voltages;
       alarms = ap (λ (q : Watching). q .watch .alarms) end ∙ m .alarms;
     }

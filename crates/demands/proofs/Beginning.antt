@@ -10,19 +10,19 @@ use Rattle.address.specs.declared.WordAddr.{WordAddr}
 use Rattle.address.specs.Slots.{off}
 use Rattle.alarm.specs.declared.Asked.{Asked}
 use Rattle.alarm.specs.declared.Limits.{Limits}
-use Rattle.alarm.specs.Starting.{limitsIn, freshWatch, lowestLimits, lowestWatch}
+use Rattle.alarm.specs.Starting.{limitsOf, limitsIn, freshWatch, lowestLimits, lowestWatch}
 use Rattle.meter.specs.Starting.{freshOf, lowestMeter}
 use Rattle.aberzhan.specs.declared.Stepped.{Stepped}
 use Rattle.aberzhan.specs.Module.{freshModule, settingsOk, startOf}
 use Rattle.aberzhan.proofs.Contracts.{start-is}
-use Rattle.demands.specs.Beginning.{Fresh, lowestSettings, EveryStart}
+use Rattle.demands.specs.Beginning.{Fresh, lowestSettings, askedLimits, refusedLimits, EveryStart}
 
 module _ (n b : ℤ) (track : List WordAddr) (asked : Asked) where
   -- `Begins` of a start's result r, with the settings asked for or the lowest
   record Started (ok : Bool) (r : Stepped) : Type 0 where
     answer : r .answer ≡ cond ok Done (Refused 7)
     settings : r .after .meter .work .settings ≡ cond ok (record { n = natAbs n; b = natAbs b; track = track }) lowestSettings
-    limits : r .after .watch .limits ≡ cond ok (limitsIn asked) lowestLimits
+    limits : r .after .watch .limits ≡ cond ok (askedLimits asked) refusedLimits
     fresh : Fresh (r .after)
 
   fresh-is : (k m : ℕ) (l : List WordAddr) (t : Limits) → Fresh (freshModule (freshOf k m l) (freshWatch t))
@@ -47,7 +47,7 @@ module _ (n b : ℤ) (track : List WordAddr) (asked : Asked) where
   by-ok : (ok : Bool) → Started ok (cond ok
       (record { answer = Done; after = freshModule (freshOf (natAbs n) (natAbs b) track) (freshWatch (limitsIn asked)) })
       (record { answer = Refused 7; after = freshModule lowestMeter lowestWatch }))
-  unfolding freshModule freshOf
+  unfolding freshModule freshOf limitsOf
   by-ok true = record { answer = refl; settings = refl; limits = refl; fresh = fresh-is (natAbs n) (natAbs b) track (limitsIn asked) }
   by-ok false = record { answer = refl; settings = refl; limits = refl; fresh = fresh-is 1 1 (replicate 6 off) lowestLimits }
 

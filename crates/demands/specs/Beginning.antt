@@ -5,8 +5,10 @@ use lib.IntN.{natAbs}
 use lib.ListN.{replicate}
 use Rattle.steps.specs.declared.Answer.the-variants.{Done, Refused}
 use Rattle.address.specs.Slots.{off}
-use Rattle.alarm.specs.Masks.{noAlarms}
-use Rattle.alarm.specs.Starting.{limitsIn, lowestLimits, noVolts}
+use Rattle.alarm.specs.declared.Asked.{Asked}
+use Rattle.alarm.specs.declared.Limits.{Limits}
+use Rattle.alarm.specs.Masks.{noAlarms, namedBy}
+use Rattle.alarm.specs.Starting.{noVolts}
 use Rattle.energy.specs.Energies.{noEnergy}
 use Rattle.interval.specs.declared.Settings.{Settings}
 use Rattle.aberzhan.specs.declared.Module.{Module}
@@ -34,10 +36,18 @@ pub record Fresh (z : Module) : Type 0 where
 abbrev pub lowestSettings : Settings
 lowestSettings = record { n = 1; b = 1; track = replicate 6 off }
 
+-- W, VSAG, VSURGE and the sticky mask that were asked for
+abbrev pub askedLimits : Asked → Limits
+askedLimits t = record { w = natAbs (t .w); vsag = natAbs (t .vsag); vsurge = natAbs (t .vsurge); sticky = namedBy (t .sticky) }
+
+-- of a refused start: W 1, both levels 0, no mask
+abbrev pub refusedLimits : Limits
+refusedLimits = record { w = 1; vsag = 0; vsurge = 0; sticky = noAlarms }
+
 pub record Begins (p : Program) : Type 0 where
   pub answer : p .started .answer ≡ cond (settingsOk (p .n) (p .b) (p .track) (p .asked)) Done (Refused 7)
   pub settings-are : settings p ≡ cond (settingsOk (p .n) (p .b) (p .track) (p .asked)) (record { n = natAbs (p .n); b = natAbs (p .b); track = p .track }) lowestSettings
-  pub limits-are : limits p ≡ cond (settingsOk (p .n) (p .b) (p .track) (p .asked)) (limitsIn (p .asked)) lowestLimits
+  pub limits-are : limits p ≡ cond (settingsOk (p .n) (p .b) (p .track) (p .asked)) (askedLimits (p .asked)) refusedLimits
   pub fresh : Fresh (first p)
 
 abbrev pub EveryStart : Type 0

@@ -162,7 +162,7 @@ shorterDay =
     ∷ plain (block (half ∷ [], pos 60 ∷ []))
     ∷ at0 (edit (writeField (pos 1) (pos 4))) ∷ []
 
--- ---- what comes of both, worked out by hand from document 01
+-- ---- what comes of both, worked out by hand from documents 01 and 02
 
 abbrev pub s0417 : Serial
 s0417 = record { len = 4; digits = t0417 ++ replicate 8 0 }

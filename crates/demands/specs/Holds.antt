@@ -1,4 +1,4 @@
--- What a hold tells, after every program: of the interval that closed last, and nothing of the one that runs; and the alarms as they are.
+-- What a hold tells, after every program: number, serial and counts of the interval that closed last, not of the one that runs; and the alarms as they are.
 use mathlib.Core.Path.{_≡_}
 use mathlib.Core.List.{List, foldl}
 use mathlib.Core.Option.{Option, none, some}

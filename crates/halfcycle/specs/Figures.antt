@@ -23,9 +23,16 @@ sagOnly = record { sag = true; surge = false }
 abbrev pub surgeOnly : Alarms
 surgeOnly = record { sag = false; surge = true }
 
--- W 2, so that 5 as a level is compared with 50; mask of the alarms that stay set
+abbrev pub sagAndSurge : Alarms
+sagAndSurge = record { sag = true; surge = true }
+
+-- W, both levels, and the alarms that stay set
+abbrev pub over : ℕ → ℕ → ℕ → Alarms → Limits
+over w vsag vsurge sticky = record { w = w; vsag = vsag; vsurge = vsurge; sticky = sticky }
+
+-- W 2, so that 5 as a level is compared with 50
 abbrev pub at : ℕ → ℕ → Alarms → Limits
-at vsag vsurge sticky = record { w = 2; vsag = vsag; vsurge = vsurge; sticky = sticky }
+at = over 2
 
 abbrev pub low : List Came
 low = voltage (pos 3) ∷ voltage (pos 4) ∷ []
@@ -33,11 +40,17 @@ low = voltage (pos 3) ∷ voltage (pos 4) ∷ []
 abbrev pub even : List Came
 even = voltage (pos 5) ∷ voltage (pos 5) ∷ []
 
+abbrev pub both-ways : List Came
+both-ways = voltage (pos 3) ∷ voltage (pos 4) ∷ voltage (pos 9) ∷ []
+
 abbrev pub sagBit : Came
 sagBit = reset (pos 2097152)
 
 abbrev pub surgeBit : Came
 surgeBit = reset (pos 512)
+
+abbrev pub bothBits : Came
+bothBits = reset (pos 2097664)
 
 abbrev pub figure : Limits → List Came → Alarms → Figure
 figure t r a = record { limits = t; came = r; alarms = a }
@@ -56,6 +69,21 @@ figures =
     ∷ figure (at 5 0 noAlarms) (voltage (pos 3) ∷ voltage (pos 4) ∷ sagBit ∷ []) noAlarms  -- a reset clears one that is not sticky too
     ∷ figure (at 5 0 sagOnly) (voltage (pos 3) ∷ voltage (pos 4) ∷ sagBit ∷ voltage (pos 4) ∷ []) sagOnly  -- and the next voltage sets it again: 32
     ∷ figure (at 5 0 sagOnly) (voltage (pos 3) ∷ voltage (pos 4) ∷ reset (pos 2097153) ∷ []) sagOnly  -- a refused reset clears nothing
+    -- the same of surge, and that neither alarm goes by the other's bit
+    ∷ figure (at 0 5 surgeOnly) (voltage (pos 5) ∷ voltage (pos 6) ∷ voltage (pos 3) ∷ []) surgeOnly  -- 61, and then 45: sticky
+    ∷ figure (at 0 5 sagOnly) (voltage (pos 5) ∷ voltage (pos 6) ∷ voltage (pos 3) ∷ []) noAlarms  -- sag's bit does not keep surge set
+    ∷ figure (at 5 0 surgeOnly) both-ways noAlarms  -- nor surge's bit sag
+    ∷ figure (at 0 5 surgeOnly) (voltage (pos 5) ∷ voltage (pos 6) ∷ sagBit ∷ []) surgeOnly
+    ∷ figure (at 0 5 surgeOnly) (voltage (pos 5) ∷ voltage (pos 6) ∷ surgeBit ∷ []) noAlarms
+    ∷ figure (at 0 5 surgeOnly) (voltage (pos 5) ∷ voltage (pos 6) ∷ surgeBit ∷ voltage (pos 6) ∷ []) surgeOnly  -- 72
+    ∷ figure (at 5 5 sagAndSurge) both-ways sagAndSurge  -- 25, and then 97: each by itself
+    ∷ figure (at 5 5 sagAndSurge) (voltage (pos 3) ∷ voltage (pos 4) ∷ voltage (pos 9) ∷ sagBit ∷ []) surgeOnly
+    ∷ figure (at 5 5 sagAndSurge) (voltage (pos 3) ∷ voltage (pos 4) ∷ voltage (pos 9) ∷ bothBits ∷ []) noAlarms
+    -- W 3, so that 4 as a level is compared with 48
+    ∷ figure (over 3 4 0 noAlarms) (voltage (pos 3) ∷ voltage (pos 3) ∷ []) noAlarms  -- fewer than W
+    ∷ figure (over 3 4 0 noAlarms) (voltage (pos 3) ∷ voltage (pos 3) ∷ voltage (pos 3) ∷ []) sagOnly  -- 27
+    ∷ figure (over 3 4 4 noAlarms) (voltage (pos 9) ∷ voltage (pos 4) ∷ voltage (pos 4) ∷ voltage (pos 4) ∷ []) noAlarms  -- the last three: 48
+    ∷ figure (over 3 0 4 noAlarms) (voltage (pos 4) ∷ voltage (pos 4) ∷ voltage (pos 5) ∷ []) surgeOnly  -- 57
     ∷ []
 
 pub record Figured : Type 0 where

@@ -33,7 +33,7 @@ watchSound q =
     leb (t .w) 512 && ltb (a .at) (t .w) && leb (a .seen) (t .w) && leb (t .vsag) 8388607 && leb (t .vsurge) 8388607
     && (every24 (q .volts) && eqb (a .sum) (squares (q .volts)))
 
--- a watch that no steps make stays as it came
+-- a watch that is not sound, which no steps make, stays as it came
 unfoldable pub passedBy : Card → Card → ℕ → Watching → List ℤ → Watching
 passedBy c next turn q vs = cond (watchSound q) (seenBy c next turn q vs) q
 

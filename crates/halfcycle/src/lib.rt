@@ -202,7 +202,7 @@ fn is_sum(sum: u64, volts: &[i32]) -> bool
     sum == total
 }
 
-// Whether steps can have made the watch: no number can overflow, and the sum is that of the voltages.
+// Whether no number can overflow, and the sum is that of the voltages. What steps make is so.
 fn sound(a: Watch, volts: &[i32]) -> bool
     requires { ⌜ length (now volts) ≡ 512 ⌝ }
     ensures { λ r. ⌜ r ≡ watchSound (both a (now (volts .entry))) ⌝ }
