@@ -1,0 +1,4 @@
+-- Laws of packets.
+pub mod Sums
+pub mod Judging
+pub mod Decided
