@@ -1,0 +1,4 @@
+-- Laws of the registers that a packet gathers, and of the reply.
+pub mod Registers
+pub mod Gathers
+pub mod Putting
