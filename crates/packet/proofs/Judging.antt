@@ -1,14 +1,16 @@
--- Laws of the packet's frame: a packet that is one has at least 3 bytes, and one that is whole at most as many as its count can say.
-use Prim.Native.Nat.{ℕ, _≤_, _<_}
-use mathlib.Core.Path.{_≡_, sym, _∙_}
-use mathlib.Core.Bool.{Bool, true, false, _||_, not, true≢false}
+-- Laws of the packet's frame: what is one has at least 3 bytes.
+use Prim.Native.Nat.{ℕ, _≤_}
+use mathlib.Core.Path.{_≡_, refl, sym, subst}
+use mathlib.Core.Bool.{Bool, true, false, cond, _||_, not, true≢false}
 use mathlib.Core.List.{List}
 use native.Mathlib.Omega.{arith}
 use lib.Dec.{eqb, ltb}
 use lib.ListN.{length, getD}
 use borrow.Author.Tests.{ltb-false}
+use Rattle.packet.specs.declared.Ending.{Ending}
+use Rattle.packet.specs.declared.Ending.the-variants.{Whole, Fails, Unanswered}
 use Rattle.packet.specs.Codes.{withData}
-use Rattle.packet.specs.Packets.{countIn, isNone}
+use Rattle.packet.specs.Packets.{countIn, isNone, judged}
 
 -- of four tests none holds
 none-of : (a b c d : Bool) → a || b || c || d ≡ false → (a ≡ false) × (c ≡ false) × (d ≡ false)
@@ -34,3 +36,17 @@ unfolding isNone
 framed p e =
     let q = none-of (ltb (length p) 2) (not (eqb (getD p 0 0) withData)) (ltb (countIn p) 3) (ltb (length p) (countIn p)) e in
     record { two = ltb-false _ _ (q .0); three = ltb-false _ _ (q .1); all = ltb-false _ _ (q .2) }
+
+-- a packet that is whole is none of those that have no reply
+abbrev Answered : Ending → Type 0
+Answered Whole = Unit {0}
+Answered (Fails c) = Unit {0}
+Answered Unanswered = ⊥
+
+answered : (none : Bool) (e : Ending) → Answered (cond none Unanswered e) → none ≡ false
+answered true e h = absurd h
+answered false e h = refl
+
+pub whole-long : (p : List ℕ) → judged p ≡ Whole → 3 ≤ length p
+unfolding judged
+whole-long p e = let f = framed p (answered (isNone p) _ (subst Answered (sym e) tt)) in omega (arith, f .three, f .all)

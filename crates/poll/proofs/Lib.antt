@@ -2,3 +2,7 @@
 pub mod Registers
 pub mod Gathers
 pub mod Putting
+pub mod Replying
+pub mod Sending
+pub mod Answering
+pub mod Decided

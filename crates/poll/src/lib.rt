@@ -133,7 +133,6 @@ fn walk(h: Held, l: Line, g: Gathered, c: u8, behind: &[u8]) -> Walked
 
 // The commands of a packet, one after another.
 fn gather(h: Held, commands: &[u8]) -> Gathering
-    requires { ⌜ length (now commands) ≤ 252 ⌝ }
     ensures { λ r. ⌜ r ≡ gathers (readAt h) noneGathered (askedFrom (now (commands .entry)) 0 atFirst) ⌝ }
 {
     let mut l = Line {
@@ -196,10 +195,77 @@ fn put_values(values: &[i64], out: &mut [u8])
     requires { ⌜ (length (now values) ≤ 84) × (3 * length (now values) + 3 ≤ length (now out)) ⌝ }
     ensures { λ _. ⌜ now (out .exit) ≡ put (now (out .entry)) 0 (valuesReply (now (values .entry))) ⌝ }
 {
-    let end = 3 * values.len() + 2;
-    let head = [0xAA, (end + 1) as u8];
+    let n = values.len();
+    let end = 3 * n + 2;
+    let head = [0xAA, (3 * n + 3) as u8];
     serial::put_at(out, 0, &head);
     put_registers(values, out);
     let sum = [packet::sum_of(&out[..end])];
     serial::put_at(out, end, &sum);
+}
+
+// The registers behind the last command: none, some, or too many for a reply.
+fn send_values(g: Gathered, out: &mut [u8]) -> Replied
+    ensures { λ r. ⌜ (r ≡ repliedIn (length (now (out .entry))) (sendingOf g))
+        × (now (out .exit) ≡ putWithin (now (out .entry)) 0 (replyBytes (sendingOf g))) ⌝ }
+{
+    let n = g.count;
+    let values = g.values;
+    if 84 < n {
+        return send_code(0xBF, out);
+    }
+    if n == 0 {
+        return send_code(0xAD, out);
+    }
+    let length = 3 * n + 3;
+    if out.len() < length {
+        return Replied {
+            fits: false,
+            length: 0,
+            sends: false,
+        };
+    }
+    put_values(&values[..n], out);
+    Replied {
+        fits: true,
+        length,
+        sends: true,
+    }
+}
+
+fn send(g: Gathering, out: &mut [u8]) -> Replied
+    ensures { λ r. ⌜ (r ≡ repliedIn (length (now (out .entry))) (replyOf g))
+        × (now (out .exit) ≡ putWithin (now (out .entry)) 0 (replyBytes (replyOf g))) ⌝ }
+{
+    let gathered = g.gathered;
+    let ending = g.ending;
+    match ending {
+        Ending::Whole => send_values(gathered, out),
+        Ending::Fails(c) => send_code(c, out),
+        Ending::Unanswered => Replied {
+            fits: true,
+            length: 0,
+            sends: false,
+        },
+    }
+}
+
+// Answers a packet from a hold: the reply is put at the front of the buffer, where it fits.
+pub fn answer(h: Held, packet: &[u8], out: &mut [u8]) -> Replied
+    ensures { λ r. ⌜ (r ≡ repliedIn (length (now (out .entry))) (replyFrom h (now (packet .entry))))
+        × (now (out .exit) ≡ putWithin (now (out .entry)) 0 (replyBytes (replyFrom h (now (packet .entry))))) ⌝ }
+{
+    match packet::judge(packet) {
+        Ending::Whole => {
+            let end = packet.len() - 1;
+            let g = gather(h, &packet[2..end]);
+            send(g, out)
+        }
+        Ending::Fails(c) => send_code(c, out),
+        Ending::Unanswered => Replied {
+            fits: true,
+            length: 0,
+            sends: false,
+        },
+    }
 }
