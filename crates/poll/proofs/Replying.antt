@@ -41,11 +41,13 @@ has-room g vs v h l =
     let t : ltb (g .count) 84 ≡ true = lt-ltb (g .count) 84 (omega (arith, n .0)) in
     rw t (record {
       long = length-set (g .values) (g .count) v ∙ h .long;
-      few = λ _. (ap (λ (k : ℕ). k + 1) (n .0) ∙ sym (one-more vs v),
-          ap (λ (k : ℕ). take k (set (g .values) (g .count) v)) (one-more vs v ∙ add-one (length vs))
-          ∙ ap (λ (k : ℕ). take (suc k) (set (g .values) (g .count) v)) (sym (n .0))
-          ∙ take-suc-set (g .values) (g .count) v (omega (arith, n .0, h .long))
-          ∙ ap (λ (r : List ℤ). r ++ (v ∷ [])) (ap (λ (k : ℕ). take k (g .values)) (n .0) ∙ n .1));
+      few = λ _. (
+        ap (λ (k : ℕ). k + 1) (n .0) ∙ sym (one-more vs v),
+        ap (λ (k : ℕ). take k (set (g .values) (g .count) v)) (one-more vs v ∙ add-one (length vs))
+            ∙ ap (λ (k : ℕ). take (suc k) (set (g .values) (g .count) v)) (sym (n .0))
+            ∙ take-suc-set (g .values) (g .count) v (omega (arith, n .0, h .long))
+            ∙ ap (λ (r : List ℤ). r ++ (v ∷ [])) (ap (λ (k : ℕ). take k (g .values)) (n .0) ∙ n .1),
+      );
       many = λ m. absurd (not-le-of-lt m (omega (arith, one-more vs v)));
     })
 

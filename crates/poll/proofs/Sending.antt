@@ -87,9 +87,10 @@ module _ (g : Gathered) (b c : List ℕ) (few : g .count ≤ 84) (some : g .coun
       _≡_ {A = Replied} (record { fits = true; length = 3 * g .count + 3; sends = true }) (repliedIn (length b) (sendingOf g)) × (c ≡ putWithin b 0 (replyBytes (sendingOf g)))
   unfolding replyBytes
   sent l e =
-      of-reply b c (record { fits = true; length = 3 * g .count + 3; sends = true }) (sym (some-registers g few some))
-      (ap (λ (n : ℕ). record { fits = true; length = n; sends = true }) (sym reply-long) ∙ has-room (values taken) b (omega (arith, reply-long)),
-      e ∙ is-put (values taken) b (omega (arith, reply-long)))
+      of-reply b c (record { fits = true; length = 3 * g .count + 3; sends = true }) (sym (some-registers g few some)) (
+        ap (λ (n : ℕ). record { fits = true; length = n; sends = true }) (sym reply-long) ∙ has-room (values taken) b (omega (arith, reply-long)),
+        e ∙ is-put (values taken) b (omega (arith, reply-long)),
+      )
 
   pub not-sent : length b < 3 * g .count + 3 →
       _≡_ {A = Replied} (record { fits = false; length = 0; sends = false }) (repliedIn (length b) (sendingOf g)) × (b ≡ putWithin b 0 (replyBytes (sendingOf g)))
