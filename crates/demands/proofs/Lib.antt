@@ -1,5 +1,6 @@
 -- The promises, proved.
 pub mod Beginning
+pub mod Turns
 pub mod Demand3
 pub mod Cards
 pub mod Cuts
