@@ -310,13 +310,13 @@ impl Module {
         }
     }
 
-    // The hold h is port 1's, where registers were sent.
-    fn poll_of(mut self, h: Held, r: Replied) -> Polled
-        ensures { λ p. ⌜ p ≡ polled self h r ⌝ }
+    // Where registers were sent, their hold is port 1's.
+    fn poll_of(mut self, own: Held, r: Replied) -> Polled
+        ensures { λ p. ⌜ p ≡ polled self own r ⌝ }
     {
         let answer = poll_answer(r.fits);
         if r.sends {
-            self.hold1 = h;
+            self.hold1 = own;
             return Polled {
                 answer,
                 length: r.length,
@@ -337,9 +337,9 @@ impl Module {
     {
         let track = self.meter.work.settings.track;
         let copied = Held::copy(self.meter.work.any, self.meter.work.last, track);
-        let h = copied.held;
-        let replied = poll::answer(h, packet, out);
-        self.poll_of(h, replied)
+        let own = copied.held;
+        let replied = poll::answer(own, packet, out);
+        self.poll_of(own, replied)
     }
 
     // A block of samples, voltage and current: 5, 6, 18.

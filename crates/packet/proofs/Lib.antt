@@ -3,4 +3,5 @@ pub mod Sums
 pub mod Judging
 pub mod Bounds
 pub mod Requests
+pub mod Figures
 pub mod Decided

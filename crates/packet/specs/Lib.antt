@@ -4,3 +4,4 @@ pub mod Packets
 pub mod Commands
 pub mod Replies
 pub mod Requests
+pub mod Figures
