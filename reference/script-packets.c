@@ -147,28 +147,36 @@ static void add_selection(struct draft *draft)
         add_pair(draft, 0xCF, 1);
 }
 
-static void add_good(struct draft *draft)
+/* A command that succeeds and sends nothing. */
+static void add_quiet(struct draft *draft)
 {
-    uint64_t what = draw(100);
+    uint64_t what = draw(4);
 
-    if (what < 75)
-        read_registers(draft);
-    else if (what < 82)
+    if (what == 0)
         read_good(draft, 0);
-    else if (what < 88)
+    else if (what == 1)
         aim(draft, between(0, 65535));
     else
         add_selection(draft);
 }
 
-/* An address that the read step refuses, or none of whose registers may be read. */
+static void add_good(struct draft *draft)
+{
+    if (chance(75))
+        read_registers(draft);
+    else
+        add_quiet(draft);
+}
+
+/* An address that the read step refuses. */
 static int64_t no_address(const struct site *site)
 {
     int64_t address = any_register(site), off = register_address(PLAIN + (int)draw(2 * TRACKED));
-    int64_t any = between(0, 65535);
 
+    if (!readable(site, off) && chance(60))
+        return off;
     return PICK(address + 1, address + 2, address - 1, address / 3, (address + 0x8000) % 65536, 0, 0x154, 0x150, 0x177,
-                off, off, 0xFF, 0xFFFF, 0xFFFD, any);
+                0xFF, 0xFFFF, 0xFFFD, between(0, 65535));
 }
 
 /* At the end of a stretch of registers the next word is none. */
@@ -185,6 +193,21 @@ static void read_too_far(struct draft *draft)
         run = 0;
     }
     add_read(draft, PICK(3 * run + 3, 3 * run + 3, 3 * run + 3, 3 * run + 6, 255));
+    fails(draft, false);
+}
+
+/* Where the pointer stands in a packet that has not set it, or behind 0xA0: no register has a lower byte of 0. */
+static void read_from_0(struct draft *draft)
+{
+    int64_t address = any_register(draft->site);
+
+    if (draft->length > 0 || chance(50)) {
+        aim(draft, address);
+        add(draft, 0xA0);
+    }
+    if (chance(50))
+        add_pair(draft, 0xA2, address / 256);
+    add_read(draft, 3);
     fails(draft, false);
 }
 
@@ -239,10 +262,12 @@ static void add_failure(struct draft *draft)
     } else if (what < 52) {
         aim(draft, any_register(draft->site));
         add_read(draft, odd % 3 == 0 ? odd + 1 : odd);
-    } else if (what < 68) {
+    } else if (what < 67) {
         aim(draft, no_address(draft->site));
         add_read(draft, 3);
-    } else if (what < 83) {
+    } else if (what < 74) {
+        read_from_0(draft);
+    } else if (what < 85) {
         read_too_far(draft);
     } else if (what < 93) {
         add_other_device(draft);
@@ -347,7 +372,7 @@ void packet_make(struct packet *packet, const struct site *site)
     else if (what < 62)
         ask_for_much(&draft);
     else if (what < 67)
-        add_selection(&draft);
+        add_quiet(&draft);
     else if (what < 72)
         add_deselection(&draft);
     else

@@ -36,6 +36,8 @@ void put_poll(const struct packet *packet, int64_t room)
 /* Lines about polls that are no step, and a few that are one hardly. */
 static const char *const line[] = {
     "poll",
+    "poll",
+    "poll",
     "poll ",
     "poll  ",
     "poll  255 AA 03 AD",
@@ -125,12 +127,12 @@ void put_odd_poll(void)
 void put_long_poll(void)
 {
     static const char *const bad[] = {"", "A", "AAA", "zz", "-1", "0x"};
-    int64_t items = PACKET_MOST + PICK(-1, 0, 0, 1, 1, 1, 2, 904), first = between(0, items - 1);
+    int64_t items = PACKET_MOST + PICK(-1, 0, 0, 1, 1, 1, 1, 2, 904), first = between(0, items - 1);
     int64_t wrong = chance(50) ? -1 : PICK(items - 1, items - 2, PACKET_MOST, PACKET_MOST - 1, first);
     const char *none = bad[draw(sizeof bad / sizeof bad[0])];
 
     fputs("poll", stdout);
-    put_number(PICK(255, 255, 1, 0, 256));
+    put_number(PICK(255, 255, 255, 1, 0, 256));
     for (int64_t k = 0; k < items; k++)
         if (k == wrong)
             printf(" %s", none);

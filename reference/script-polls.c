@@ -17,6 +17,8 @@ static void put_site_start(struct site *site)
     put_number(PICK(1, 1, 100, 65536, 16777216));
     for (int k = 0; k < TRACKED; k++)
         put_word(site->slots >> k & 1 ? word[draw(7)] : 0);
+    if (chance(50)) /* a sag that stays, for a poll to leave it set */
+        fputs(" 1 8388607 0 0x200000", stdout);
     put_end();
 }
 
@@ -178,6 +180,6 @@ void put_polls(void)
         site.slots = (unsigned)PICK(63, 63, 63, 0, 31, 62, 15, between(0, 63));
         put_site(&site, between(8, 14));
     }
-    if (chance(40))
+    if (chance(60))
         put_long_poll();
 }
