@@ -24,7 +24,7 @@ void packet_sum(struct packet *packet)
 /* With a sum that fits what it is now, mostly, so that nothing else is wrong with it. */
 static void damage_header(struct packet *packet)
 {
-    packet->byte[0] = (unsigned char)PICK(0xA9, 0xAB, 0x2A, 0xBA, 0x00, 0x55, 0xFF, 0xAD);
+    packet->byte[0] = (unsigned char)PICK(0xA9, 0xAB, 0x2A, 0x2A, 0xBA, 0x00, 0x55, 0xFF);
     packet->reply = 0;
     if (chance(80))
         packet_sum(packet);

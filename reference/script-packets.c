@@ -117,7 +117,8 @@ static void read_registers(struct draft *draft)
     int64_t words = chance(50) ? run : between(1, run);
 
     if (chance(12))
-        aim(draft, PICK(0xFF, 0x100, 0x1FF, 0xFF81, address % 256, address / 256 * 256, between(0, 65535)));
+        aim(draft,
+            PICK(0xFF, 0x100, address + 0x200, 0x1FF, 0xFF81, address % 256, address / 256 * 256, between(0, 65535)));
     aim(draft, address);
     while (words > 0) {
         int64_t part = chance(60) ? words : between(1, words);
@@ -175,8 +176,8 @@ static int64_t no_address(const struct site *site)
 
     if (!readable(site, off) && chance(60))
         return off;
-    return PICK(address + 1, address + 2, address - 1, address / 3, (address + 0x8000) % 65536, 0, 0x154, 0x150, 0x177,
-                0xFF, 0xFFFF, 0xFFFD, between(0, 65535));
+    return PICK(address + 1, address + 2, address - 1, address / 3, (address + 0x8000) % 65536, address + 0x200, 0,
+                0x154, 0x150, 0x177, 0xFF, 0xFFFF, 0xFFFD, between(0, 65535));
 }
 
 /* At the end of a stretch of registers the next word is none. */
@@ -232,7 +233,7 @@ static int64_t unknown_command(void)
 
 static void cut_parameters(struct draft *draft)
 {
-    int64_t command = PICK(0xA1, 0xA2, 0xA3, 0xA3, 0xCF, 0xE0);
+    int64_t command = PICK(0xA1, 0xA2, 0xA3, 0xA3, 0xCF, 0xCF, 0xE0);
 
     add(draft, command);
     if (command == 0xA3 && chance(60))
@@ -246,7 +247,7 @@ static void add_other_device(struct draft *draft)
     if (chance(50))
         add(draft, between(0xC2, 0xCE));
     else
-        add_pair(draft, 0xCF, PICK(2, 2, 14, 15, 16, 128, 129, 254, 255, between(2, 255)));
+        add_pair(draft, 0xCF, PICK(2, 14, 15, 16, 16, 17, 128, 129, 129, 255, between(2, 255)));
     fails(draft, true);
 }
 
@@ -284,7 +285,9 @@ static void add_deselection(struct draft *draft)
     if (chance(35))
         return;
     fails(draft, true);
-    if (chance(50))
+    if (chance(25))
+        cut_parameters(draft);
+    else if (chance(50))
         add_failure(draft);
     else
         add_good(draft);
