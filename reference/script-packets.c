@@ -4,7 +4,7 @@
 #include "random.h"
 #include "script.h"
 
-enum { PLAIN = 9, TRACKED = 6, PAYLOAD_MOST = 252, FRAME = 3, AIM_AND_READ = 9 };
+enum { PAYLOAD_MOST = 252, FRAME = 3, AIM_AND_READ = 9 };
 
 /* A packet's commands, and what they are believed to come to. */
 struct draft {

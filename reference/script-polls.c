@@ -6,7 +6,7 @@
 #include "random.h"
 #include "script.h"
 
-enum { ONE = 2097152, TRACKED = 6, LONGEST = 12 };
+enum { ONE = 2097152, LONGEST = 12 };
 
 static void put_site_start(struct site *site)
 {
@@ -36,9 +36,10 @@ static void put_any_card(int port)
     put_card(value, port);
 }
 
-static int64_t any_sample(int64_t most)
+static void put_side(int64_t most, int64_t count)
 {
-    return between(-most, most);
+    for (; count > 0; count--)
+        put_number(between(-most, most));
 }
 
 /* Mostly the rest of the interval, so that it closes; sometimes several, sometimes less than one. */
@@ -48,11 +49,9 @@ static void put_samples(struct site *site)
     int64_t volts = PICK(HIGHEST, HIGHEST, 5000000, 300000, 700), amperes = PICK(HIGHEST, 5000000, 70000, 900, 5);
 
     fputs("block", stdout);
-    for (int64_t k = 0; k < count; k++)
-        put_number(any_sample(volts));
+    put_side(volts, count);
     fputs(" |", stdout);
-    for (int64_t k = 0; k < count; k++)
-        put_number(any_sample(amperes));
+    put_side(amperes, count);
     put_end();
     site->closed = site->closed || count >= left;
     site->taken = (site->taken + count) % site->n;

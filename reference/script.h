@@ -6,7 +6,7 @@
 #include <stddef.h>
 #include <stdint.h>
 
-enum { REGISTERS = 21 };
+enum { PLAIN = 9, TRACKED = 6, REGISTERS = PLAIN + 2 * TRACKED };
 
 /* What kind of figures the script is about, from one start to the next. */
 enum manner {
