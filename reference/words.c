@@ -62,10 +62,8 @@ const char help_lines[] =
     "currents were clipped, and both alarms as they are now\n"
     "# read PORT REGISTER: of what is held; a name (VA_RMS, WATT_A, PA_POS_CNT, MIN1 ..) or a byte address\n"
     "# poll ROOM BYTES: a packet of the serial line, its bytes as two hexadecimal digits each; answers the reply's "
-    "bytes; "
-    "ROOM bytes are lent for it\n"
+    "bytes; ROOM bytes are lent for it\n"
     "# cards: the serials of the card in force and of the one that waits\n"
     "# help: these lines\n"
     "# A terminal cuts a pasted line at 4,095 bytes: send long blocks from a file, or as several blocks.\n"
-    "# Numbers are decimal, or hexadecimal behind 0x. One space parts two items. A line that begins with # is a "
-    "comment.\n";
+    "# Numbers are decimal, or hexadecimal behind 0x. One space parts two items. A line that begins with # is a comment.\n";
