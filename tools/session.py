@@ -7,6 +7,7 @@ from itertools import groupby
 from pathlib import Path
 
 from alarms import Alarms, named
+from ssi import CODES, DATA, reads_of
 
 ROOT = Path(__file__).resolve().parent.parent
 
@@ -17,8 +18,9 @@ REGISTERS = {0x2B: "VA_RMS", 0x3E: "IA_RMS", 0x46: "IA_PEAK", 0x4B: "WATT_A", 0x
 FIELD_NAMES = {name: k for k, name in enumerate(FIELDS, 1)}
 WORDS = {name: word for word, name in REGISTERS.items()}
 BYTES = {name: 3 * word for word, name in REGISTERS.items()}
-STEPS = ("start", "open", "write", "commit", "drop", "hold", "read", "block", "reset", "cards")
-NO_PORT = ("start", "block", "reset", "cards")
+COUNTS = ("PA_POS_CNT", "PA_NEG_CNT")       # never below 0, where every other register of 24 bits has a sign
+STEPS = ("start", "open", "write", "commit", "drop", "hold", "read", "poll", "block", "reset", "cards")
+NO_PORT = ("start", "poll", "block", "reset", "cards")
 LANES = {"module": "the module", "fitter 0": "fitter, port 0", "fitter 1": "fitter, port 1",
          "reader 0": "reader, port 0", "reader 1": "reader, port 1"}
 # A colour for lines and text, and a light one for areas; cards take them in turn.
@@ -251,12 +253,15 @@ class Session:
         force, waiting = (serial.replace("-", "none") for serial in (force, waiting))
         self.say("module", f"cards: {force} in force, {waiting} waits")
 
+    def last_closed(self):
+        if not self.closed:
+            raise Wrong(f"{self.line}: answered {self.answer!r}, but by the steps before it no interval has closed")
+        return self.closed
+
     def hold(self, port):
         if self.refused(f"reader {port}", "hold"):
             return
-        first, end, count, card = self.closed or (0, 0, 0, None)
-        if not card:
-            raise Wrong(f"{self.line}: answered {self.answer!r}, but by the steps before it no interval has closed")
+        first, end, count, card = self.last_closed()
         voltages = outside(self.volts[first:end], card.fields[1], card.fields[3])
         currents = outside(self.amps[first:end], card.fields[2], card.fields[4])
         counts = f"{several(voltages, 'voltage')}, {several(currents, 'current')}"
@@ -281,6 +286,23 @@ class Session:
         if box is None or box.card is not card:
             self.say(lane, f"still holds interval {count}", card.colour[0], card)
         self.say(lane, f"{name} {int(self.answer.split(' ')[1]):,}", INK, card)
+
+    def poll(self, _, *packet):
+        """A packet that reads registers is a hold at port 1 and its reads (document 02, A4); any other changes nothing."""
+        if self.refused("reader 1", "poll"):
+            return
+        reply = bytes.fromhex(self.answer.removeprefix("ok"))
+        if reply[:1] != bytes([DATA]):
+            self.say("reader 1", f"poll: {CODES[reply[0]] if reply else 'no reply'}")
+            return
+        _, _, count, card = self.held[1] = self.last_closed()
+        registers = [REGISTERS[byte // 3] for byte in reads_of(bytes.fromhex("".join(packet)))]
+        if len(reply) != 3 * len(registers) + 3:
+            raise Wrong(f"{self.line[:80]}: answered {self.answer[:80]!r}, but the packet reads {several(len(registers), 'register')}")
+        self.say("reader 1", f"poll: interval {count}, card {card.serial}", card.colour[0], card)
+        for k, name in enumerate(registers):
+            value = int.from_bytes(reply[2 + 3 * k:5 + 3 * k], "little", signed=name not in COUNTS)
+            self.say("reader 1", f"{name} {value:,}", INK, card)
 
 
 def pairs_of(script, answers):
@@ -341,5 +363,5 @@ def session_of(steps):
     """The session, where the answers fit the steps."""
     try:
         return Session(steps)
-    except (LookupError, AttributeError, TypeError, ValueError) as error:
+    except (LookupError, AttributeError, TypeError, ValueError, StopIteration) as error:
         raise Wrong(f"the answers do not fit the steps ({error!r})") from error
