@@ -2,6 +2,7 @@
 pub mod Starts
 pub mod Sides
 pub mod Steps
+pub mod Polls
 pub mod Soundness
 pub mod Decided
 pub mod Contracts

@@ -14,7 +14,9 @@ use Rattle.desk.specs.declared.Desked.{Desked}
 use Rattle.desk.specs.declared.Finished.{Finished}
 use Rattle.port.specs.declared.Held.{Held}
 use Rattle.port.specs.declared.Copied.{Copied}
+use Rattle.poll.specs.declared.Replied.{Replied}
 use Rattle.aberzhan.specs.declared.Module.{Module}
+use Rattle.aberzhan.specs.declared.Polled.{Polled}
 use Rattle.aberzhan.specs.declared.Stepped.{Stepped}
 use Rattle.aberzhan.specs.declared.Holding.{Holding}
 use Rattle.aberzhan.specs.Module.{deskOf, heldOf, withDesk, withHeld, withMeter}
@@ -63,3 +65,10 @@ held m port c =
       alarms = cond (new .any) (m .watch .alarms) noAlarms;
       after = cond (new .any) (holdPut m port new) m;
     }
+
+-- and of a poll: a reply that does not fit is refused, and h is port 1's where registers were sent
+unfoldable pub pollAnswer : Bool → Answer
+pollAnswer fits = cond fits Done (Refused 21)
+
+unfoldable pub polled : Module → Held → Replied → Polled
+polled m h r = record { answer = pollAnswer (r .fits); length = r .length; after = cond (r .sends) (withHeld port1 h m) m }

@@ -1,8 +1,10 @@
 // The module: two ports that stage cards and hold readings, before the meter.
 ghost use mathlib.Core.Path.{_≡_};
+ghost use lib.ListN.{length};
 ghost use Rattle.aberzhan.specs.Module.{refusal, openOf, writeOf, commitOf, dropOf, holdOf, readOf, blockOf, resetOf, freshModule, startOf};
+ghost use Rattle.aberzhan.specs.Polling.{pollOf, pollBuffer};
 ghost use Rattle.aberzhan.specs.Cards.{serialIf, cardsOf};
-ghost use Rattle.aberzhan.specs.Inside.{isPort, deskAt, holdAt, deskDid, waitsIf, committed, held};
+ghost use Rattle.aberzhan.specs.Inside.{isPort, deskAt, holdAt, deskDid, waitsIf, committed, held, pollAnswer, polled};
 use address::ByteAddr;
 use address::WordAddr;
 use alarm::Alarms;
@@ -13,6 +15,7 @@ use desk::Desk;
 use desk::Desked;
 use desk::Finished;
 use meter::Meter;
+use poll::Replied;
 use port::Copied;
 use port::Held;
 use port::Reading;
@@ -54,6 +57,13 @@ pub struct Looked {
     pub after: Module,
 }
 
+// What a poll returns: how many bytes the reply has, 0 if it is refused.
+pub struct Polled {
+    pub answer: Answer,
+    pub length: usize,
+    pub after: Module,
+}
+
 // The serials of the card in force and of the card that waits; none where there is no such card.
 pub struct Cards {
     pub force: Serial,
@@ -81,6 +91,16 @@ fn waits_if(answer: Answer, c: Card, m: Meter) -> Meter
         Answer::Done => m.wait(c),
         Answer::Refused(_) => m,
     }
+}
+
+// A reply that does not fit is refused.
+fn poll_answer(fits: bool) -> Answer
+    ensures { λ r. ⌜ r ≡ pollAnswer fits ⌝ }
+{
+    if fits {
+        return Answer::Done;
+    }
+    Answer::Refused(21)
 }
 
 impl Module {
@@ -288,6 +308,38 @@ impl Module {
             answer,
             after: self,
         }
+    }
+
+    // The hold h is port 1's, where registers were sent.
+    fn poll_of(mut self, h: Held, r: Replied) -> Polled
+        ensures { λ p. ⌜ p ≡ polled self h r ⌝ }
+    {
+        let answer = poll_answer(r.fits);
+        if r.sends {
+            self.hold1 = h;
+            return Polled {
+                answer,
+                length: r.length,
+                after: self,
+            };
+        }
+        Polled {
+            answer,
+            length: r.length,
+            after: self,
+        }
+    }
+
+    // Poll: 21. A packet of the serial line, answered from a hold of its own; the reply is put at the front of the buffer.
+    pub fn poll(self, packet: &[u8], out: &mut [u8]) -> Polled
+        ensures { λ r. ⌜ (r ≡ pollOf self (now (packet .entry)) (length (now (out .entry))))
+            × (now (out .exit) ≡ pollBuffer self (now (packet .entry)) (now (out .entry))) ⌝ }
+    {
+        let track = self.meter.work.settings.track;
+        let copied = Held::copy(self.meter.work.any, self.meter.work.last, track);
+        let h = copied.held;
+        let replied = poll::answer(h, packet, out);
+        self.poll_of(h, replied)
     }
 
     // A block of samples, voltage and current: 5, 6, 18.

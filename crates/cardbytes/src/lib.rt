@@ -27,6 +27,13 @@ fn three_bytes(n: u32) -> [u8; 3]
     ]
 }
 
+// The last 24 bits of a number as three bytes: a field of a card, or a register on the serial line.
+pub fn field_bytes(v: i64) -> [u8; 3]
+    ensures { λ r. ⌜ r ≡ threeBytes (bits24 v) ⌝ }
+{
+    three_bytes(last_24(v))
+}
+
 // The 37 bytes of the card with a serial and eight values.
 pub fn card_bytes(serial: Serial, fields: [i64; 8]) -> [u8; 37]
     ensures { λ r. ⌜ r ≡ cardBytes serial fields ⌝ }
@@ -36,7 +43,7 @@ pub fn card_bytes(serial: Serial, fields: [i64; 8]) -> [u8; 37]
     serial::put_at(&mut c, 0, &head);
     let mut i = 0;
     while i < 8 {
-        let three = three_bytes(last_24(fields[i]));
+        let three = field_bytes(fields[i]);
         serial::put_at(&mut c, 13 + 3 * i, &three);
         i += 1;
     }

@@ -44,29 +44,26 @@ front c =
 
 -- a field's three bytes at their place
 written : (c : tie.After-put-at2 Inv-loop μ-loop)
-    → c .put-at2 .last .0 ≡ put (c .before .before .before .before .before .before .before .loop .c) (13 + 3 * c .before .before .before .before .before .before .before .loop .i)
-    (threeBytes (bits24 (getD (c .before .before .before .before .before .before .before .before .before .before .before .before .before .args .t2) (c .before .before .before .before .before .before .before .loop .i) (pos 0))))
+    → c .put-at2 .last .0 ≡ put (c .before .before .before .before .before .before .loop .c) (13 + 3 * c .before .before .before .before .before .before .loop .i)
+    (threeBytes (bits24 (getD (c .before .before .before .before .before .before .before .before .before .before .before .before .args .t2) (c .before .before .before .before .before .before .loop .i) (pos 0))))
 written c =
     let t = c .before .before .before in
-    let d = t .before .before .before .before in
-    let z : length (t .three-bytes .result) ≡ 3 = search needs in
-    c .put-at2 .ensures ∙ put-fits (d .loop .c) (t .three-bytes .result) (13 + 3 * d .loop .i) (omega (arith, z)) ∙ ap (put _ _) (t .three-bytes .ensures ∙ ap threeBytes (rw (toZ-ofZ {w = w64} {z = getD _ _ (pos 0)} (record { sfits = t .before .before .last-24-arg .given })) at (t .before .last-24 .ensures .0)))
+    let d = t .before .before .before in
+    let z : length (t .field-bytes .result) ≡ 3 = search needs in
+    c .put-at2 .ensures ∙ put-fits (d .loop .c) (t .field-bytes .result) (13 + 3 * d .loop .i) (omega (arith, z)) ∙ ap (put _ _) (rw (toZ-ofZ {w = w64} {z = getD _ _ (pos 0)} (record { sfits = t .before .field-bytes-arg .given })) at (t .field-bytes .ensures))
 
 loop-holds : tie.Need-loop-holds Inv-loop μ-loop
 unfolding fieldsBytes
 loop-holds c = (omega arith, search needs, sym (append-nil _))
 
-mul-last-24 : tie.Need-mul-last-24 Inv-loop μ-loop
-mul-last-24 c = search needs
+mul-field-bytes : tie.Need-mul-field-bytes Inv-loop μ-loop
+mul-field-bytes c = search needs
 
-array-copy-out-last-24 : tie.Need-array-copy-out-last-24 Inv-loop μ-loop
-array-copy-out-last-24 c = search needs
+array-copy-out-field-bytes : tie.Need-array-copy-out-field-bytes Inv-loop μ-loop
+array-copy-out-field-bytes c = search needs
 
-last-24-requires : tie.Need-last-24-requires Inv-loop μ-loop
-last-24-requires c κs = search needs
-
-three-bytes-requires : tie.Need-three-bytes-requires Inv-loop μ-loop
-three-bytes-requires c κs = search needs
+field-bytes-requires : tie.Need-field-bytes-requires Inv-loop μ-loop
+field-bytes-requires c κs = search needs
 
 slice-aggregate-put-at-3 : tie.Need-slice-aggregate-put-at-3 Inv-loop μ-loop
 slice-aggregate-put-at-3 c = search needs
@@ -91,7 +88,7 @@ loop-less c = search needs
 
 loop-again : tie.Need-loop-again Inv-loop μ-loop
 loop-again c =
-    let d = c .before .before .before .before .before .before .before .before in
+    let d = c .before .before .before .before .before .before .before in
     let f = d .before .before .before .before .before .before .args .t2 in
     (omega arith, search needs, fields-turn (take 13 (d .before .before .put-at .last .0)) (d .loop .c) (c .before .put-at2 .last .0) f (d .loop .i) (search needs) (omega arith) (d .loop .inv .2) (written (c .before)))
 
@@ -113,10 +110,9 @@ card-bytes-spec =
     slice-aggregate-put-at-2
     put-at-requires
     loop-holds
-    mul-last-24
-    array-copy-out-last-24
-    last-24-requires
-    three-bytes-requires
+    mul-field-bytes
+    array-copy-out-field-bytes
+    field-bytes-requires
     slice-aggregate-put-at-3
     mul-put-at
     add-put-at

@@ -1,0 +1,30 @@
+-- `poll` meets its contract.
+use mathlib.Core.Path.{ap, _∙_}
+use lib.ListN.{length}
+use Rattle.serial.specs.Places.{putWithin}
+use Rattle.port.specs.declared.Held.{Held}
+use Rattle.packet.specs.Replies.{replyBytes}
+use Rattle.poll.specs.Polls.{replyFrom, repliedIn}
+use Rattle.aberzhan.specs.Inside.{polled}
+use Rattle.aberzhan.proofs.Polls.{now-held, poll-is, buffer-is}
+use borrow.Author.Needs.{needs}
+use Rattle.aberzhan.proofs.Module.poll.Statement.{statement}
+use Rattle.aberzhan.proofs.Module.poll.Tie as tie
+
+copy-requires : tie.Need-copy-requires
+copy-requires c κs = search needs
+
+answer-requires : tie.Need-answer-requires
+answer-requires c κs = search needs
+
+poll-of-requires : tie.Need-poll-of-requires
+poll-of-requires c κs = search needs
+
+same-length : tie.Need-same-length
+same-length c = search needs
+
+returns : tie.Need-returns
+returns c = (let m = c .before .before .before .before .before .before .before .before .before .before .args .self in let p = c .before .before .before .before .before .before .before .before .before .before .args .packet .now in let b = c .before .before .before .before .before .before .before .before .before .before .args .out .now in let e = now-held m p (c .before .before .before .before .before .before .copy .result) (c .before .before .before .before .before .before .copy .ensures) in (c .poll-of .ensures ∙ ap (polled m (c .before .before .before .before .before .before .copy .result .held)) (c .before .before .before .answer .ensures .0) ∙ ap (λ (h : Held). polled m h (repliedIn (length b) (replyFrom h p))) e ∙ poll-is m p (length b), c .before .before .before .answer .ensures .1 ∙ ap (λ (h : Held). putWithin b 0 (replyBytes (replyFrom h p))) e ∙ buffer-is m p b))
+
+pub poll-spec : {M : Type 1} → statement M
+poll-spec = tie.close (tie.spec copy-requires answer-requires poll-of-requires same-length returns)

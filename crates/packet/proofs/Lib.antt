@@ -1,0 +1,5 @@
+-- Laws of packets.
+pub mod Sums
+pub mod Judging
+pub mod Bounds
+pub mod Decided

@@ -1,0 +1,3 @@
+-- What a packet is answered from a hold (document 02, A4).
+pub mod Polls
+pub mod Inside
