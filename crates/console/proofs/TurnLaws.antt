@@ -27,7 +27,7 @@ use Rattle.console.specs.Texts.{beginsWith, lengthTo}
 use Rattle.console.specs.Items.{rowOf, samples, bytes, Filled}
 use Rattle.console.specs.Words.{wordOf, itemsOf, enough}
 use Rattle.console.specs.Unread.{stoppedBefore, sideStopped, packetStopped}
-use Rattle.console.specs.Turns.{noReply, nth, unreadTurn, steppedTurn, replyOf, polledTurn, itemsTurn, withItems, withText, packetTurn, currentsTurn, withSamples, wordTurn, turnOf}
+use Rattle.console.specs.Turns.{noReply, nth, unreadTurn, steppedTurn, toldReply, polledTurn, itemsTurn, withItems, withText, packetTurn, currentsTurn, withSamples, wordTurn, turnOf}
 use Rattle.console.proofs.words.Word as Word-type
 use Rattle.console.proofs.ItemLaws.{taken-out, packet-out}
 
@@ -164,8 +164,8 @@ module _ (m : Module) (packet : List ℕ) (room : ℕ) (h : room ≤ 255) where
   back : drop room (noReply .bytes) ≡ replicate (255 - room) 0
   back = ap (drop room) halves ∙ drop-at (replicate room 0) (replicate (255 - room) 0) room (length-replicate room 0)
 
-  pub reply-bytes : (r : Reply) (b : List ℕ) → r ≡ noReply → b ≡ pollBuffer m packet (take room (r .bytes)) → b ++ drop room (r .bytes) ≡ replyOf m packet room .bytes
-  unfolding replyOf
+  pub reply-bytes : (r : Reply) (b : List ℕ) → r ≡ noReply → b ≡ pollBuffer m packet (take room (r .bytes)) → b ++ drop room (r .bytes) ≡ toldReply m packet room .bytes
+  unfolding toldReply
   reply-bytes r b q e =
       ap (λ (t : List ℕ). t ++ drop room (r .bytes)) (e ∙ ap (pollBuffer m packet) (ap (λ (x : Reply). take room (x .bytes)) q ∙ front))
       ∙ ap (λ (t : List ℕ). pollBuffer m packet (replicate room 0) ++ t) (ap (λ (x : Reply). drop room (x .bytes)) q ∙ back)

@@ -4,7 +4,7 @@ use mathlib.Core.Path.{_≡_, refl, ap}
 use mathlib.Core.Bool.{Bool, true, false, cond, _&&_, false≢true}
 use mathlib.Core.List.{List, [], _∷_}
 use mathlib.Core.Option.{Option, none, some}
-use lib.Dec.{eqb, ltb}
+use lib.Dec.{eqb, leb, ltb}
 use lib.IntN.{ℤ}
 use lib.ListN.{length, take, drop}
 use Rattle.card.specs.declared.Card.{Card}
@@ -23,13 +23,15 @@ use Rattle.meter.specs.Core.{core}
 use Rattle.meter.specs.Blocks.{blockDone, answered, voltsIn, voltsOf, blockOf as meterBlock}
 use Rattle.port.specs.declared.Held.{Held}
 use Rattle.port.specs.Holds.{copied}
+use Rattle.packet.specs.Replies.{replyBytes}
 use Rattle.desk.specs.declared.Desk.{Desk}
 use Rattle.desk.specs.Desks.{opening, writing, finished, dropping}
 use Rattle.aberzhan.specs.declared.Module.{Module}
 use Rattle.aberzhan.specs.declared.Stepped.{Stepped}
+use Rattle.aberzhan.specs.declared.Polled.{Polled}
 use Rattle.aberzhan.specs.Module.{deskOf, watchOf, withMeter, withWatch, portAt, atPort, refusal, atDesk, committing, notHeld, holding}
 use Rattle.aberzhan.specs.Module.{openOf, writeOf, commitOf, dropOf, holdOf, readOf, blockOf, resetOf}
-use Rattle.aberzhan.specs.Polling.{pollOf}
+use Rattle.aberzhan.specs.Polling.{replyOf, afterReply, pollOf}
 use Rattle.console.specs.declared.words.Kind.the-variants as kind
 use Rattle.console.specs.declared.items.Next.{Next}
 use Rattle.console.specs.declared.items.Next.the-variants as next
@@ -43,7 +45,7 @@ use Rattle.console.specs.Texts.{beginsWith, lengthTo}
 use Rattle.console.specs.Words.{wordOf, itemsOf, enough}
 use Rattle.console.specs.Items.{nextOf, rowOf, samples, bytes, packetOf}
 use Rattle.console.specs.Unread.{stoppedBefore, sideStopped, packetStopped}
-use Rattle.console.specs.Turns.{unreadTurn, saidOf, steppedTurn, heldTurn, polledTurn, begunBy, startedTurn, nth, itemsTurn, withItems, withText}
+use Rattle.console.specs.Turns.{unreadTurn, saidOf, steppedTurn, heldTurn, polledSaid, polledTurn, begunBy, startedTurn, nth, itemsTurn, withItems, withText}
 use Rattle.console.specs.Turns.{packetTurn, behindRoom, withPacket, currentsTurn, withSamples, wordTurn, turnOf}
 use Rattle.console.specs.Session.{lineTurn}
 use Rattle.console.specs.Unchanged.{ChangesNothing}
@@ -146,9 +148,19 @@ read-kept : (m : Module) (port : ℤ) (a : ByteAddr) → readOf m port a .after 
 unfolding readOf
 read-kept m port a = refl
 
+-- a poll by whether its reply fits
+abbrev answering : Module → List ℕ → Bool → Polled
+answering m packet fits =
+    let r = replyOf m packet in
+    cond fits (record { answer = answer.Done; length = length (replyBytes r); after = afterReply r m }) (record { answer = answer.Refused 21; length = 0; after = m })
+
 poll-kept : (m : Module) (packet : List ℕ) (room : ℕ) → Keeps m (polledTurn m packet room)
 unfolding pollOf
-poll-kept m packet room e = refl
+poll-kept m packet room = by (leb (length (replyBytes (replyOf m packet))) room)
+  where
+    by : (fits : Bool) → saysNo (polledSaid (answering m packet fits .answer)) ≡ true → answering m packet fits .after ≡ m
+    by true e = absurd (false≢true e)
+    by false e = refl
 
 -- ---- lines
 items-kept : (m : Module) (w : Word) (x : List ℤ) → Keeps m (itemsTurn m w x)

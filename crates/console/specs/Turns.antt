@@ -101,8 +101,8 @@ polledSaid answer.Done = said.Polled
 polledSaid (answer.Refused n) = said.Refused n
 
 -- the reply, of so many bytes, at the front of the room that is lent for it
-unfoldable pub replyOf : Module → List ℕ → ℕ → Reply
-replyOf m packet room = record { bytes = pollBuffer m packet (replicate room 0) ++ replicate (255 - room) 0; length = pollOf m packet room .length }
+unfoldable pub toldReply : Module → List ℕ → ℕ → Reply
+toldReply m packet room = record { bytes = pollBuffer m packet (replicate room 0) ++ replicate (255 - room) 0; length = pollOf m packet room .length }
 
 abbrev pub polledTurn : Module → List ℕ → ℕ → Turn
 polledTurn m packet room =
@@ -115,7 +115,7 @@ polledTurn m packet room =
         clips = noClips;
         alarms = noAlarms;
         waiting = noSerial;
-        reply = replyOf m packet room;
+        reply = toldReply m packet room;
       };
       after = p .after;
     }

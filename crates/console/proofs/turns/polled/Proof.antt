@@ -4,7 +4,7 @@ use mathlib.Core.Path.{_≡_, sym}
 use native.Mathlib.Omega.{arith}
 use lib.ListN.{length, take}
 use lib.Seq.{length-take-le}
-use Rattle.console.specs.Turns.{replyOf}
+use Rattle.console.specs.Turns.{toldReply}
 use Rattle.console.proofs.TurnLaws.{reply-bytes}
 use borrow.Author.Needs.{needs}
 use Rattle.console.proofs.turns.polled.Statement.{statement}
@@ -38,7 +38,7 @@ bare-requires : tie.Need-bare-requires
 bare-requires c κs = search needs
 
 returns : tie.Need-returns
-unfolding replyOf
+unfolding toldReply
 returns c =
     let p = c .before .before .before .before .poll in
     let n = c .before .before .before .before .before .before .before in
