@@ -36,6 +36,7 @@ static bool next_line(struct line *line)
 struct said {
     int64_t value;
     struct held held;
+    struct reply reply;
 };
 
 /* Settings that the line leaves out are at their lowest. */
@@ -79,6 +80,8 @@ static int take_step(struct module *module, const struct step *step, struct said
         return module_hold(module, number[0], &said->held);
     case READ:
         return module_read(module, number[0], number[1], &said->value);
+    case POLL:
+        return module_poll(module, step->packet, step->packet_length, number[0], &said->reply);
     case BLOCK:
         return module_block(module, step->voltage, step->voltages, step->current, step->currents);
     case RESET:
@@ -113,6 +116,12 @@ static void put_held(const struct held *held)
     fputs(held->alarms & SURGE ? " SURGE" : " -", stdout);
 }
 
+static void put_reply(const struct reply *reply)
+{
+    for (size_t k = 0; k < reply->length; k++)
+        printf(" %02X", (unsigned)reply->byte[k]);
+}
+
 static void put_accepted(const struct module *module, enum kind kind, const struct said *said)
 {
     fputs("ok", stdout);
@@ -120,6 +129,8 @@ static void put_accepted(const struct module *module, enum kind kind, const stru
         put_held(&said->held);
     } else if (kind == READ) {
         printf(" %" PRId64, said->value);
+    } else if (kind == POLL) {
+        put_reply(&said->reply);
     } else if (kind == CARDS) {
         put_card(module->has_card, &module->card);
         put_card(module->card_waits, &module->waiting);

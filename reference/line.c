@@ -181,6 +181,35 @@ static enum unread take_block(struct step *step, struct rest *rest)
     return unread;
 }
 
+static enum unread take_packet_byte(struct step *step, struct item item)
+{
+    struct rest digits = {item.at, item.at + item.length};
+    uint64_t byte;
+
+    if (step->packet_length == PACKET_MOST)
+        return MORE_BYTES;
+    if (item.length != 2 || !all_digits(digits, 16, 255, &byte))
+        return NO_BYTE;
+    step->packet[step->packet_length++] = (unsigned char)byte;
+    return NONE;
+}
+
+static enum unread take_poll(struct step *step, struct rest *rest)
+{
+    enum unread unread = NONE;
+    int64_t room;
+
+    if (!take_byte(rest, ' '))
+        return ITEM_MISSING;
+    if (!is_number(take_item(rest), &room) || room < 0 || room > ROOM_MOST)
+        return NO_ROOM;
+    step->number[0] = room;
+    step->packet_length = 0;
+    while (unread == NONE && take_byte(rest, ' '))
+        unread = take_packet_byte(step, take_item(rest));
+    return unread;
+}
+
 enum unread line_parse(struct step *step, const unsigned char *line, size_t length)
 {
     static const struct form form[] = {
@@ -191,6 +220,7 @@ enum unread line_parse(struct step *step, const unsigned char *line, size_t leng
         {"drop", DROP, "n"},
         {"hold", HOLD, "n"},
         {"read", READ, "nb"},
+        {"poll", POLL, ""},
         {"block", BLOCK, ""},
         {"reset", RESET, "n"},
         {"cards", CARDS, ""},
@@ -206,5 +236,7 @@ enum unread line_parse(struct step *step, const unsigned char *line, size_t leng
     if (k == forms)
         return NO_STEP;
     step->kind = form[k].kind;
+    if (step->kind == POLL)
+        return take_poll(step, &rest);
     return step->kind == BLOCK ? take_block(step, &rest) : take_items(step, &rest, form[k].items);
 }

@@ -8,9 +8,9 @@
 
 #include "words.h"
 
-enum { LINE_MOST = 131071, SIDE_MOST = 8192, NUMBERS_MOST = 12 };
+enum { LINE_MOST = 131071, SIDE_MOST = 8192, NUMBERS_MOST = 12, PACKET_MOST = 4096, ROOM_MOST = 255 };
 
-enum kind { START, OPEN, WRITE, COMMIT, DROP, HOLD, READ, BLOCK, RESET, CARDS, HELP };
+enum kind { START, OPEN, WRITE, COMMIT, DROP, HOLD, READ, POLL, BLOCK, RESET, CARDS, HELP };
 
 struct step {
     enum kind kind;
@@ -20,6 +20,8 @@ struct step {
     size_t text_length;
     int32_t voltage[SIDE_MOST], current[SIDE_MOST];
     size_t voltages, currents;
+    unsigned char packet[PACKET_MOST];
+    size_t packet_length;
 };
 
 /* Answers NONE, or why a line of at most LINE_MOST bytes is no step. */

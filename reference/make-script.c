@@ -264,6 +264,8 @@ int main(int argc, char **argv)
         put_clipped();
     if (chance(80))
         put_alarms();
+    if (chance(80))
+        put_polls();
     put_last_line();
     return fflush(stdout) == 0 ? 0 : 1;
 }

@@ -1,4 +1,5 @@
-/* module.c: start, the steps at the ports and the reset, each with its checks in the order of documents 01 and 02. */
+/* module.c: start, the steps at the ports, the poll and the reset, each with its checks in the order of documents 01
+   and 02. */
 #include "module.h"
 
 #include <string.h>
@@ -125,6 +126,20 @@ int module_read(const struct module *module, int64_t port, int64_t byte_address,
     if (!module->port[port].held)
         return 15;
     return register_read(&module->port[port].hold.registers, module->slot, byte_address, value);
+}
+
+int module_poll(struct module *module, const unsigned char *packet, size_t length, int64_t room, struct reply *reply)
+{
+    struct held held;
+
+    packet_reply(reply, packet, length, module->some_closed ? &module->closed.registers : NULL, module->slot);
+    if (reply->length > (size_t)room) {
+        reply->length = 0;
+        return 21;
+    }
+    if (reply->length > 1) /* registers are sent */
+        module_hold(module, 1, &held);
+    return 0;
 }
 
 int module_reset(struct module *module, int64_t mask)

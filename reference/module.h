@@ -9,6 +9,7 @@
 
 #include "alarms.h"
 #include "card.h"
+#include "packet.h"
 #include "registers.h"
 
 enum { PORTS = 2, BLOCK_MOST = 4096 };
@@ -80,6 +81,7 @@ int module_commit(struct module *module, int64_t port);
 int module_drop(struct module *module, int64_t port);
 int module_hold(struct module *module, int64_t port, struct held *held);
 int module_read(const struct module *module, int64_t port, int64_t byte_address, int64_t *value);
+int module_poll(struct module *module, const unsigned char *packet, size_t length, int64_t room, struct reply *reply);
 int module_block(struct module *module, const int32_t *voltage, size_t voltages, const int32_t *current,
                  size_t currents);
 int module_reset(struct module *module, int64_t mask);

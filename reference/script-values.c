@@ -132,9 +132,9 @@ int64_t good_bucket(void)
 
 static int64_t table_word(int which)
 {
-    static const int64_t word[9] = {0x2B, 0x3E, 0x46, 0x4B, 0x4E, 0x65, 0x8B, 0x8F, 0x92};
+    static const int64_t word[PLAIN] = {0x2B, 0x3E, 0x46, 0x4B, 0x4E, 0x65, 0x8B, 0x8F, 0x92};
 
-    return which < 9 ? word[which] : 0x71 + which - 9;
+    return which < PLAIN ? word[which] : 0x71 + which - PLAIN;
 }
 
 const char *field_name(int field)

@@ -6,7 +6,7 @@
 #include <stddef.h>
 #include <stdint.h>
 
-enum { REGISTERS = 21 };
+enum { PLAIN = 9, TRACKED = 6, REGISTERS = PLAIN + 2 * TRACKED };
 
 /* What kind of figures the script is about, from one start to the next. */
 enum manner {
@@ -87,6 +87,36 @@ void put_odd_watch(void);
 
 /* Sums of squares around the levels of sag and surge, on fresh modules (script-alarms.c). */
 void put_alarms(void);
+
+/* What is believed of a module that is polled. */
+struct site {
+    int64_t n, taken;
+    unsigned slots; /* those that are on: a bit each */
+    bool closed;
+};
+
+enum { PACKET_MOST = 4096 };
+
+/* A packet, and how many bytes the reply to it is believed to have. */
+struct packet {
+    unsigned char byte[PACKET_MOST];
+    size_t length, reply;
+};
+
+/* A packet with a good frame (script-packets.c). */
+void packet_make(struct packet *packet, const struct site *site);
+
+/* What may be wrong with a frame (script-frames.c). */
+void packet_sum(struct packet *packet); /* its last byte */
+void packet_damage(struct packet *packet);
+
+/* Lines with a packet, and lines that are nearly one (script-poll-lines.c). */
+void put_poll(const struct packet *packet, int64_t room);
+void put_odd_poll(void);
+void put_long_poll(void);
+
+/* Packets of the serial line, with holds and reads at port 1 between them, on fresh modules (script-polls.c). */
+void put_polls(void);
 
 /* Names that are none, or stand in the wrong place (script-names.c). */
 void put_odd_name(void);

@@ -15,6 +15,9 @@ const char *unread_words(enum unread unread)
         [NO_BAR] = "no bar between voltages and currents",
         [MORE_SAMPLES] = "more than 8,192 samples on a side",
         [NO_SAMPLE] = "not a 32-bit number",
+        [NO_ROOM] = "not a number from 0 to 255",
+        [NO_BYTE] = "not two hexadecimal digits",
+        [MORE_BYTES] = "more than 4,096 bytes",
     };
 
     return words[unread];
@@ -38,6 +41,7 @@ const char *refusal_words(int refusal)
         [16] = "no register has this byte address",
         [17] = "MIN or MAX of a slot that is off",
         [18] = "no card in force and none waits",
+        [21] = "the buffer is too short",
     };
 
     return words[refusal];
@@ -57,6 +61,8 @@ const char help_lines[] =
     "# hold PORT: keeps the last closed interval; answers its number, its card's serial, how many of its voltages and "
     "currents were clipped, and both alarms as they are now\n"
     "# read PORT REGISTER: of what is held; a name (VA_RMS, WATT_A, PA_POS_CNT, MIN1 ..) or a byte address\n"
+    "# poll ROOM BYTES: a packet of the serial line, its bytes as two hexadecimal digits each; answers the reply's "
+    "bytes; ROOM bytes are lent for it\n"
     "# cards: the serials of the card in force and of the one that waits\n"
     "# help: these lines\n"
     "# A terminal cuts a pasted line at 4,095 bytes: send long blocks from a file, or as several blocks.\n"

@@ -14,7 +14,10 @@ enum unread {
     MORE_ITEMS,
     NO_BAR,
     MORE_SAMPLES,
-    NO_SAMPLE
+    NO_SAMPLE,
+    NO_ROOM,
+    NO_BYTE,
+    MORE_BYTES
 };
 
 const char *unread_words(enum unread unread);
