@@ -21,7 +21,7 @@ front : (room : ℕ) (b behind : List ℕ) → length b ≤ room → take (lengt
 unfolding put
 front room b behind h =
     let z : List ℕ = replicate room 0 in
-    let l : 0 + length b ≤ length z = omega (arith, length-replicate room 0) in
+    let l : 0 + length b ≤ length z = omega (arith, length-replicate {A = ℕ} room 0) in
     ap (λ (t : List ℕ). take (length b) (t ++ behind)) (put-fits z b 0 l)
     ∙ ap (take (length b)) (append-assoc b (drop (0 + length b) z) behind)
     ∙ take-append-seam b (drop (0 + length b) z ++ behind)
