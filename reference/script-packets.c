@@ -228,7 +228,7 @@ static int64_t unknown_command(void)
 {
     int64_t low = between(0, 0x9F), middle = between(0xA4, 0xBF), high = between(0xF0, 0xFF);
 
-    return PICK(0x00, 0x7F, 0x80, 0x9F, 0xA4, 0xAF, 0xB0, 0xBF, 0xF0, 0xFF, low, low, middle, middle, high);
+    return PICK(0x00, 0x7F, 0x80, 0x9F, 0xA4, 0xA4, 0xAF, 0xB0, 0xBF, 0xF0, 0xFF, low, low, middle, middle, high);
 }
 
 static void cut_parameters(struct draft *draft)
@@ -245,7 +245,7 @@ static void cut_parameters(struct draft *draft)
 static void add_other_device(struct draft *draft)
 {
     if (chance(50))
-        add(draft, between(0xC2, 0xCE));
+        add(draft, PICK(0xC2, 0xCE, between(0xC2, 0xCE)));
     else
         add_pair(draft, 0xCF, PICK(2, 14, 15, 16, 16, 17, 128, 129, 129, 255, between(2, 255)));
     fails(draft, true);

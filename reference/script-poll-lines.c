@@ -22,14 +22,28 @@ static void put_byte(int byte, enum letters letters)
     put_digit(byte % 16, letters);
 }
 
+static void put_no_byte(void)
+{
+    static const char *const none[] = {"", "", "A", "AAA", "zz", "-1", "0x"};
+
+    printf(" %s", none[draw(sizeof none / sizeof none[0])]);
+}
+
+/* Now and then an item that is no byte, mostly behind the last, or another room, makes it a line that is not read. */
 void put_poll(const struct packet *packet, int64_t room)
 {
     enum letters letters = (enum letters)PICK(CAPITAL, CAPITAL, SMALL_ONES, MIXED);
+    size_t spoilt = chance(60) ? packet->length : (size_t)draw(packet->length + 1);
+    bool spoils = chance(3);
 
     fputs("poll", stdout);
-    put_number(room);
-    for (size_t k = 0; k < packet->length; k++)
-        put_byte(packet->byte[k], letters);
+    put_number(chance(2) ? PICK(-1, -1, 256, 256, -room - 1, bad_number(room)) : room);
+    for (size_t k = 0; k <= packet->length; k++) {
+        if (spoils && k == spoilt)
+            put_no_byte();
+        if (k < packet->length)
+            put_byte(packet->byte[k], letters);
+    }
     put_end();
 }
 
@@ -126,16 +140,14 @@ void put_odd_poll(void)
 /* As many items as a poll may have, or one more or less; one of them, mostly near the end, may be no byte. */
 void put_long_poll(void)
 {
-    static const char *const bad[] = {"", "A", "AAA", "zz", "-1", "0x"};
     int64_t items = PACKET_MOST + PICK(-1, 0, 0, 1, 1, 1, 1, 2, 904), first = between(0, items - 1);
     int64_t wrong = chance(50) ? -1 : PICK(items - 1, items - 2, PACKET_MOST, PACKET_MOST - 1, first);
-    const char *none = bad[draw(sizeof bad / sizeof bad[0])];
 
     fputs("poll", stdout);
     put_number(PICK(255, 255, 255, 1, 0, 256));
     for (int64_t k = 0; k < items; k++)
         if (k == wrong)
-            printf(" %s", none);
+            put_no_byte();
         else
             put_byte(k == 0 ? 0xAA : 0x03, CAPITAL);
     put_end();
