@@ -1,9 +1,9 @@
 // The word that a line begins with, and the items that its step has.
 ghost use mathlib.Core.Path.{_≡_};
 ghost use Prim.Native.Nat.{_≤_, _<_};
-ghost use lib.ListN.{length, getD};
+ghost use lib.ListN.{length, drop, getD};
 ghost use Rattle.console.specs.declared.words.Kind.the-variants as «kind»;
-ghost use Rattle.console.specs.Words.{wordOf, itemsOf, enough};
+ghost use Rattle.console.specs.Words.{words, firstOf, wordOf, itemsOf, enough};
 use serial::same_text;
 
 pub enum Word {
@@ -60,6 +60,13 @@ pub(super) fn first_word(item: &[u8]) -> Word
     if same_text(b"poll", item) {
         return Word::Poll;
     }
+    later_word(item)
+}
+
+// One of the words that are listed behind it.
+fn later_word(item: &[u8]) -> Word
+    ensures { λ r. ⌜ r ≡ firstOf (drop 8 words) (now (item .entry)) ⌝ }
+{
     if same_text(b"block", item) {
         return Word::Block;
     }
