@@ -1,7 +1,9 @@
 -- What the generated contracts of the module's methods allow, call by call; and that it is what `returned`, for the start `startOf`, says of the call.
-use mathlib.Core.Path.{_≡_, refl, ap, _∙_}
+use mathlib.Core.Path.{_≡_, refl, sym, ap, _∙_}
+use Prim.Native.Nat.{ℕ}
 use mathlib.Core.List.{List}
 use lib.IntN.{ℤ}
+use lib.ListN.{length}
 use contract.Lifetimes.{Lfts}
 use borrow.Fn.Kinds.{Dens}
 use denote.Ref.{now}
@@ -13,9 +15,11 @@ use Rattle.aberzhan.specs.declared.Module.{Module}
 use Rattle.aberzhan.specs.declared.Stepped.{Stepped}
 use Rattle.aberzhan.specs.declared.Holding.{Holding}
 use Rattle.aberzhan.specs.declared.Looked.{Looked}
+use Rattle.aberzhan.specs.declared.Polled.{Polled}
 use Rattle.aberzhan.specs.declared.Cards.{Cards}
 use Rattle.aberzhan.specs.Ports.{aberzhan}
 use Rattle.aberzhan.specs.Module.{startOf, holdOf}
+use Rattle.aberzhan.specs.Polling.{pollOf, pollBuffer}
 use Rattle.aberzhan.specs.Cards.{cardsOf}
 use Rattle.aberzhan.specs.Calls.{stateOf, Call, callOpen, callWrite, callCommit, callDrop, callHold, callRead, callBlock, callReset, stepOf, callOf, fromStep, fromHold, fromRead, returned, program}
 use Rattle.aberzhan.proofs.Module.start.Kinds as starts-k
@@ -32,6 +36,8 @@ use Rattle.aberzhan.proofs.Module.hold.Kinds as holds-k
 use Rattle.aberzhan.proofs.Module.hold.Reads as holds
 use Rattle.aberzhan.proofs.Module.read.Kinds as reads-k
 use Rattle.aberzhan.proofs.Module.read.Reads as reads
+use Rattle.aberzhan.proofs.Module.poll.Kinds as polls-k
+use Rattle.aberzhan.proofs.Module.poll.Reads as polls
 use Rattle.aberzhan.proofs.Module.block.Kinds as blocks-k
 use Rattle.aberzhan.proofs.Module.block.Reads as blocks
 use Rattle.aberzhan.proofs.Module.reset.Kinds as resets-k
@@ -54,6 +60,12 @@ Shows m r = (κs : Lfts 0) × (a : Dens κs cards-k.ps) × Allowed 0 cards-k.ps 
 -- `Module::hold` of the module m, at the port p, may return r
 abbrev pub Holds : Module → ℤ → Holding → Type 0
 Holds m p r = (κs : Lfts 0) × (a : Dens κs holds-k.ps) × Allowed 0 holds-k.ps holds-k.r holds.Post κs a r × (a .0 ≡ m) × (a .1 .0 ≡ p)
+
+-- `Module::poll` of the module m, with this packet and these bytes of a lent buffer, may return r and leave these bytes in it
+abbrev pub Polls : Module → List ℕ → List ℕ → Polled → List ℕ → Type 0
+Polls m packet buffer r left =
+    (κs : Lfts 2) × (a : Dens κs polls-k.ps) × (h : Allowed 2 polls-k.ps polls-k.r polls.Post κs a r)
+    × (a .0 ≡ m) × (now (a .1 .0) ≡ packet) × (now (a .1 .1 .0) ≡ buffer) × (h .lasts .1 .1 .0 ≡ left)
 
 -- the call's method may return the reply and the module o; its first parameter is the module m, and the others are the call's
 abbrev pub Allows : Call → Module → Reply aberzhan × Module → Type 0
@@ -96,6 +108,10 @@ shown-is m r (κs, a, h, e) = rw e at (h .allowed)
 
 pub held-by : (m : Module) (p : ℤ) (r : Holding) → Holds m p r → r ≡ holdOf m p
 held-by m p r (κs, a, h, e, f) = rw (e, f) at (h .allowed)
+
+pub polled-is : (m : Module) (packet buffer : List ℕ) (r : Polled) (left : List ℕ) → Polls m packet buffer r left →
+    (r ≡ pollOf m packet (length buffer)) × (left ≡ pollBuffer m packet buffer)
+polled-is m packet buffer r left (κs, a, h, e, f, g, i) = (rw (e, f, g) at (h .allowed .0), sym i ∙ (rw (e, f, g) at (h .allowed .1)))
 
 pub allowed-is : (k : Call) (m : Module) (o : Reply aberzhan × Module) → Allows k m o → o ≡ returned k m
 allowed-is (callOpen p text) m o (κs, a, r, h, e, f, g, q) = q ∙ ap fromStep (rw (e, f, g) at (h .allowed))

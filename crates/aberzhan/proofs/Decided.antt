@@ -15,6 +15,8 @@ use Rattle.aberzhan.proofs.Module.hold.Kinds as holds-k
 use Rattle.aberzhan.proofs.Module.hold.Reads as holds
 use Rattle.aberzhan.proofs.Module.read.Kinds as reads-k
 use Rattle.aberzhan.proofs.Module.read.Reads as reads
+use Rattle.aberzhan.proofs.Module.poll.Kinds as polls-k
+use Rattle.aberzhan.proofs.Module.poll.Reads as polls
 use Rattle.aberzhan.proofs.Module.block.Kinds as blocks-k
 use Rattle.aberzhan.proofs.Module.block.Reads as blocks
 use Rattle.aberzhan.proofs.Module.reset.Kinds as resets-k
@@ -42,6 +44,10 @@ hold-decided = record { always = λ κs a. tt; determined = λ κs a p z z′ ws
 
 pub read-decided : Decided 0 reads-k.ps reads-k.r reads.Pre reads.Post
 read-decided = record { always = λ κs a. tt; determined = λ κs a p z z′ ws ws′ q q′. (q ∙ sym q′, refl) }
+
+-- the lent buffer stands third
+pub poll-decided : Decided 2 polls-k.ps polls-k.r polls.Pre polls.Post
+poll-decided = record { always = λ κs a. tt; determined = λ κs a p z z′ ws ws′ q q′. (q .0 ∙ sym (q′ .0), λ i. (tt, (tt, ((q .1 ∙ sym (q′ .1)) i, tt)))) }
 
 pub block-decided : Decided 2 blocks-k.ps blocks-k.r blocks.Pre blocks.Post
 block-decided = record { always = λ κs a. tt; determined = λ κs a p z z′ ws ws′ q q′. (q ∙ sym q′, refl) }

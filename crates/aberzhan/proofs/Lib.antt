@@ -8,3 +8,4 @@ pub mod Decided
 pub mod Contracts
 pub mod Told
 pub mod Agreement
+pub mod Counting

@@ -6,3 +6,5 @@ pub mod Cards
 pub mod Inside
 pub mod Ports
 pub mod Calls
+pub mod Turns
+pub mod Counting

@@ -79,7 +79,7 @@ every-alarm p =
     let masks : namedOf core ms ≡ resetsOf core ports (struck aberzhan (steps p) (stateOf z)) =
     subst (λ (s : State aberzhan). namedOf core (marked core ports none (run aberzhan (steps p) s .history) (outset core (z .meter .work))) ≡ resetsOf core ports (struck aberzhan (steps p) s))
     (sym (d .begins)) (d .promise .resets-are) in
-    let end : watchOf (p .log .end) ≡ foldl metBy (watchOf z) (cameOf p) = ap (λ (s : State aberzhan). s .meter .watch) (d .calls .end) ∙ from-begin ∙ all-meet ms (watchOf z) in
+    let end : watchOf (p .log .end) ≡ foldl metBy (watchOf z) (cameOf p) = ap (λ (s : State aberzhan). s .meter .watch) (d .as-calls .end) ∙ from-begin ∙ all-meet ms (watchOf z) in
     let m = of-start Unwatched fresh-unwatched p .means (cameOf p) in
     let voltages : voltagesOf (cameOf p) ≡ correctedOf p =
     sampled-volts ms ∙ ap (map volt) (marks ∙ ap (λ (is : List (Interval core)). withCards core is ++ withCardIf core (openOf p)) (cut-from p)) in

@@ -36,7 +36,7 @@ fresh-shows m f = rw (f .none-in-force, f .none-waits)
 
 pub cards-shown : CardsShown
 cards-shown p =
-    let e = module-demand3 p .calls .end in
+    let e = module-demand3 p .as-calls .end in
     let m = p .log .end in
     record {
       none-at-first = λ r h. shown-is (first p) r h ∙ fresh-shows (first p) (every-start p .fresh);

@@ -35,8 +35,9 @@ use Rattle.aberzhan.specs.Calls.{stateOf, moduleOf, callBlock, replyOf}
 use Rattle.aberzhan.proofs.Soundness.{SoundModule, sounds, shut-phased, from-start}
 use Rattle.aberzhan.proofs.Contracts.{Allows, methods, start-is, allowed-is}
 use Rattle.aberzhan.proofs.Agreement.{does, eighteen}
-use Rattle.demands.specs.Program.{Program, first, steps, ran, closes}
+use Rattle.demands.specs.Program.{Program, first, calls, steps, ran, closes}
 use Rattle.demands.specs.Demand3.{ModuleDemand3}
+use Rattle.demands.proofs.Turns.{took-ran}
 
 -- ---- what a start returns is a fresh module, taken or refused
 abbrev pub OfFresh : (Module → Type 0) → Type 0
@@ -91,11 +92,12 @@ pub module-demand3 : ModuleDemand3
 module-demand3 p =
     let f = begun p in
     let z = first p in
-    let d = calls-demand3 aberzhan sounds methods does (newly core noCard (z .meter .work) (watchOf z)) z (f .begins) (f .good) (p .calls) (p .log) (p .calls-allowed) in
+    let d = calls-demand3 aberzhan sounds methods does (newly core noCard (z .meter .work) (watchOf z)) z (f .begins) (f .good) (calls p) (p .log) (took-ran (p .turns-allowed)) in
     let s = end-sound p (d .end) in
     record {
       begins = f .begins;
-      calls = d;
+      plainly = took-ran (p .turns-allowed);
+      as-calls = d;
       same-struct = λ short r. ap moduleOf (d .same-state short r);
       promise = promise core ports noCard (z .meter .work) (watchOf z) (steps p);
       sound = sound-yes (p .log .end .meter) (s .0);

@@ -111,7 +111,7 @@ energy-history p =
     let u = of-start Uncounted fresh-uncounted p in
     record {
       at-end =
-          subst (λ (w : Work). Counted t w (closes p)) (ap (λ (s : State aberzhan). s .meter .intervals .work) (sym (module-demand3 p .calls .end)))
+          subst (λ (w : Work). Counted t w (closes p)) (ap (λ (s : State aberzhan). s .meter .intervals .work) (sym (module-demand3 p .as-calls .end)))
           (always-work core (lasts t) ports (stateOf (first p)) (steps p) (u .at-first));
       in-each = subst (EachCounted t noEnergy noEnergy) (sym (one-card-each p)) (u .each (closedFrom p));
     }

@@ -54,6 +54,6 @@ holds-tell p q r h =
     let m = p .log .end in
     let begun = of-start (λ (m : Module). shown (m .meter .work) ≡ none) fresh-shown p in
     let ends = always-work core lasts ports (stateOf (first p)) (steps p) begun in
-    let same = ap (λ (s : State aberzhan). s .meter .intervals .work) (module-demand3 p .calls .end) in
+    let same = ap (λ (s : State aberzhan). s .meter .intervals .work) (module-demand3 p .as-calls .end) in
     subst (λ (a : Alarms). Telling (lastly (closes p)) a r) (every-alarm p .alarms)
     (subst (λ (z : Option Closed). Telling z (m .watch .alarms) r) (ap shown same ∙ ends) (by-any m q r h (m .meter .work .any) refl))

@@ -1,5 +1,7 @@
 -- The promises, proved.
 pub mod Beginning
+pub mod Turns
+pub mod Polls
 pub mod Demand3
 pub mod Cards
 pub mod Cuts

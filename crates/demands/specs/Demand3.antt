@@ -18,15 +18,16 @@ use Rattle.aberzhan.specs.Ports.{ports, aberzhan}
 use Rattle.aberzhan.specs.Module.{watchOf}
 use Rattle.aberzhan.specs.Calls.{stateOf, callBlock}
 use Rattle.aberzhan.proofs.Contracts.{Allows, methods}
-use Rattle.demands.specs.Program.{Program, first, steps}
+use Rattle.demands.specs.Program.{Program, first, calls, steps}
 
 pub record ProgramDemand3 (p : Program) : Type 0 where
   -- the calls do what the steps do that they ask for, from the state of a fresh module; every log of the shorter sequence's calls has no refusal,
   -- the same values of every hold and read, and the same state at the end
   pub begins : stateOf (first p) ≡ fresh aberzhan (newly core noCard (first p .meter .work) (watchOf (first p)))
-  pub calls : CallsDemand3 aberzhan methods (first p) (p .calls) (p .log)
+  pub plainly : Ran aberzhan methods (calls p) (first p) (p .log)  -- the log is that of the calls which the turns count as: their contracts allow it too
+  pub as-calls : CallsDemand3 aberzhan methods (first p) (calls p) (p .log)
   -- and leaves the very same struct
-  pub same-struct : (short : Log aberzhan Module) → Ran aberzhan methods (shorterCalls aberzhan methods (first p) (p .calls)) (first p) short →
+  pub same-struct : (short : Log aberzhan Module) → Ran aberzhan methods (shorterCalls aberzhan methods (first p) (calls p)) (first p) short →
       short .end ≡ p .log .end
   -- the shorter sequence is what the demand's words say; it closes the same intervals, counts the same energy, has the same card in
   -- force, the same alarms and the same last voltages; each closed interval is worked with one card, the last one committed before its first

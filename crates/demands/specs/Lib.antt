@@ -2,6 +2,7 @@
 pub mod Program
 pub mod Beginning
 pub mod Demand3
+pub mod Polls
 pub mod Cards
 pub mod Intervals
 pub mod Alarms

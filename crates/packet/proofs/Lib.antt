@@ -2,4 +2,5 @@
 pub mod Sums
 pub mod Judging
 pub mod Bounds
+pub mod Requests
 pub mod Decided

@@ -3,3 +3,4 @@ pub mod Codes
 pub mod Packets
 pub mod Commands
 pub mod Replies
+pub mod Requests
