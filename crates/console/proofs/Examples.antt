@@ -18,12 +18,12 @@ use Rattle.console.specs.declared.words.Word.the-variants as word
 use Rattle.console.specs.declared.unread.Why.the-variants as why
 use Rattle.console.specs.declared.turns.Said.the-variants as said
 use Rattle.console.specs.Texts.{beginsWith, lengthTo, withoutReturn}
-use Rattle.console.specs.Numbers.{digitOf, worthBehind, digitsOf, positive, valueOf}
-use Rattle.console.specs.Items.{worthIn, nextOf, rowOf}
+use Rattle.console.specs.Numbers.{digitOf, worthBehind, digitsOf, positive, negative, valueOf, pairOf}
+use Rattle.console.specs.Items.{worthIn, nextOf, rowOf, several}
 use Rattle.console.specs.Words.{itemsOf}
-use Rattle.console.specs.Unread.{whyWords, stoppedBefore}
-use Rattle.console.specs.Turns.{barely, askedOf, withItems}
-use Rattle.console.specs.Answers.{end, unreadLine, refusedLine, valueLine, digitsText, cardText, clipsText, alarmsText, heldLine, cardsLine, saidText, toldText}
+use Rattle.console.specs.Unread.{whyWords, stoppedBefore, packetStopped}
+use Rattle.console.specs.Turns.{barely, polledTurn, askedOf, withItems, packetTurn, withPacket}
+use Rattle.console.specs.Answers.{end, unreadLine, refusedLine, valueLine, digitsText, cardText, clipsText, alarmsText, heldLine, hexDigit, bytesText, replyLine, cardsLine, saidText, toldText}
 
 refused : toldText (barely (said.Refused 16)) ≡ ascii "REFUSED 16: no register has this byte address" ++ end
 unfolding toldText saidText refusedLine decimal digits ascii wordsOf table
@@ -53,6 +53,19 @@ held-none = refl
 held-all : heldLine 2 label (record { v = 4096; i = 4096 }) (record { sag = true; surge = true }) ≡ ascii "ok 2 0417 4096 4096 SAG SURGE" ++ end
 unfolding heldLine digitsText clipsText alarmsText decimal digits ascii
 held-all = refl
+
+-- a reply with a register that is 2,000; one that says no; and none. What stands behind its bytes is not said
+reply : replyLine (record { bytes = 170 ∷ 6 ∷ 208 ∷ 7 ∷ 0 ∷ 135 ∷ 1 ∷ []; length = 6 }) ≡ ascii "ok AA 06 D0 07 00 87" ++ end
+unfolding replyLine bytesText hexDigit ascii
+reply = refl
+
+reply-no : replyLine (record { bytes = 176 ∷ 0 ∷ []; length = 1 }) ≡ ascii "ok B0" ++ end
+unfolding replyLine bytesText hexDigit ascii
+reply-no = refl
+
+reply-none : replyLine (record { bytes = 0 ∷ []; length = 0 }) ≡ ascii "ok" ++ end
+unfolding replyLine bytesText ascii
+reply-none = refl
 
 -- nothing is in force yet, a card waits
 cards : cardsLine noSerial label ≡ ascii "ok - 0417" ++ end
@@ -87,3 +100,45 @@ module _ (m : Module) where
   start-long : withItems m word.Start (ascii " 1 1 0 0 0 0 0 0 1 0 0 0 0") .told .said ≡ said.Unread why.More
   unfolding withItems rowOf itemsOf nextOf worthIn valueOf beginsWith lengthTo digitsOf worthBehind digitOf positive registerNamed namedIn spelled registers sameText every stoppedBefore ascii
   start-long = refl
+
+  -- a poll with a packet of three bytes, in either case, and with an empty one
+  poll-packet : withPacket m (ascii " 0x10 aA 03 Ad") ≡ polledTurn m (170 ∷ 3 ∷ 173 ∷ []) 16
+  unfolding withPacket packetTurn rowOf several itemsOf nextOf worthIn valueOf pairOf beginsWith lengthTo digitsOf worthBehind digitOf positive negative stoppedBefore ascii
+  poll-packet = refl
+
+  poll-nothing : withPacket m (ascii " 255") ≡ polledTurn m [] 255
+  unfolding withPacket packetTurn rowOf several itemsOf nextOf worthIn valueOf pairOf beginsWith lengthTo digitsOf worthBehind digitOf positive negative stoppedBefore ascii
+  poll-nothing = refl
+
+  -- no room, and rooms that are none
+  poll-short : withPacket m [] .told .said ≡ said.Unread why.Missing
+  unfolding withPacket packetTurn rowOf several itemsOf nextOf worthIn valueOf pairOf beginsWith lengthTo digitsOf worthBehind digitOf positive negative stoppedBefore ascii
+  poll-short = refl
+
+  poll-wide : withPacket m (ascii " 256 AA") .told .said ≡ said.Unread why.NotRoom
+  unfolding withPacket packetTurn rowOf several itemsOf nextOf worthIn valueOf pairOf beginsWith lengthTo digitsOf worthBehind digitOf positive negative stoppedBefore ascii
+  poll-wide = refl
+
+  poll-below : withPacket m (ascii " -1") .told .said ≡ said.Unread why.NotRoom
+  unfolding withPacket packetTurn rowOf several itemsOf nextOf worthIn valueOf pairOf beginsWith lengthTo digitsOf worthBehind digitOf positive negative stoppedBefore ascii
+  poll-below = refl
+
+  -- one digit, three, and a space at the line's end
+  poll-digit : withPacket m (ascii " 255 AA 3") .told .said ≡ said.Unread why.NotByte
+  unfolding withPacket packetTurn rowOf several itemsOf nextOf worthIn valueOf pairOf beginsWith lengthTo digitsOf worthBehind digitOf positive negative stoppedBefore ascii
+  poll-digit = refl
+
+  poll-digits : withPacket m (ascii " 255 0AA") .told .said ≡ said.Unread why.NotByte
+  unfolding withPacket packetTurn rowOf several itemsOf nextOf worthIn valueOf pairOf beginsWith lengthTo digitsOf worthBehind digitOf positive negative stoppedBefore ascii
+  poll-digits = refl
+
+  poll-space : withPacket m (ascii " 255 ") .told .said ≡ said.Unread why.NotByte
+  unfolding withPacket packetTurn rowOf several itemsOf nextOf worthIn valueOf pairOf beginsWith lengthTo digitsOf worthBehind digitOf positive negative stoppedBefore ascii
+  poll-space = refl
+
+-- behind 4,096 bytes another item is one too many, whatever it is
+bytes-full : packetStopped 4096 ≡ why.TooManyBytes
+bytes-full = refl
+
+bytes-fewer : packetStopped 4095 ≡ why.NotByte
+bytes-fewer = refl

@@ -1,29 +1,31 @@
 -- Taking items one after another into a buffer. What was taken and the row behind it make up the whole row.
-use Prim.Native.Nat.{ℕ, zero, suc, _+_, _≤_, _<_, suc-le-suc}
+use Prim.Native.Nat.{ℕ, zero, suc, _+_, _*_, _^_, _≤_, _<_, suc-le-suc}
 use mathlib.Core.Path.{_≡_, refl, sym, ap, _∙_}
-use mathlib.Core.Bool.{Bool, true, false, cond, _&&_}
-use mathlib.Core.List.{List, [], _∷_, _++_, append-assoc, append-nil}
+use mathlib.Core.Bool.{Bool, true, false, cond, _&&_, false≢true}
+use mathlib.Core.List.{List, [], _∷_, _++_, map, append-assoc, append-nil}
 use native.Mathlib.Nat.{add-assoc}
 use native.Mathlib.Numerals.{add-one}
 use native.Mathlib.Omega.{arith}
-use lib.IntN.{ℤ, pos, negsuc}
-use lib.Signed.{leZ}
+use lib.IntN.{ℤ, pos, negsuc, natAbs}
+use lib.Dec.{T, ltb}
+use lib.Signed.{leZ, nonNeg}
 use lib.ListN.{length, take, drop, getD, set, take-append-drop, length-set, length-drop, drop-of-length-le}
 use lib.Seq.{take-suc-set, drop-set-lt, drop-drop, drop-cons, length-take-le, take-append-seam}
 use mir.Syntax.{w32}
 use mir.Val.{SFits}
-use borrow.Author.Tests.{leb-true}
+use borrow.Author.Tests.{leb-true, lt-ltb, le-leb, ltb-true, ne-eqb}
 use Rattle.console.specs.declared.items.Row.{Row}
 use Rattle.console.specs.declared.items.Next.{Next}
 use Rattle.console.specs.declared.items.Next.the-variants as next
+use Rattle.console.specs.declared.numerals.Worth.the-variants as worth
 use Rattle.console.specs.declared.numerals.Number.{Number}
 use Rattle.console.specs.declared.numerals.Number.the-variants as number
 use Rattle.console.specs.declared.words.Kind.{Kind}
 use Rattle.console.specs.declared.words.Kind.the-variants as kind
 use Rattle.console.specs.Texts.{beginsWith, lengthTo}
-use Rattle.console.specs.Numbers.{valueOf}
-use Rattle.console.specs.Items.{sampled, worthIn, numbered, nextOf, Numbers, none, before, rowOf, samples, Filled}
-use Rattle.console.proofs.TextLaws.{and-left, begins-within, to-within}
+use Rattle.console.specs.Numbers.{digitOf, worthBehind, upTo, digitsOf, positive, valueOf, pairOf}
+use Rattle.console.specs.Items.{between, worthIn, numbered, nextOf, Numbers, none, before, rowOf, several, packetOf, Filled}
+use Rattle.console.proofs.TextLaws.{and-left, and-right, begins-within, to-within}
 
 -- ---- an item takes no more bytes than there are
 numbered-is : (v : Number) (b : ℕ) (x : ℤ) (n : ℕ) → numbered v b ≡ next.Number x n → (v ≡ number.Is x) × (n ≡ b)
@@ -46,33 +48,84 @@ module _ (k : Kind) (t : List ℕ) (x : ℤ) (n : ℕ) where
   pub next-within : nextOf k t ≡ next.Number x n → n ≤ length t
   next-within e = next-is e .1
 
--- ---- a sample is a number within 32 bits
-sampled-small : (v : Number) (x : ℤ) → sampled v ≡ number.Is x → (leZ (negsuc 2147483647) x && leZ x (pos 2147483647)) ≡ true
-sampled-small (number.Is y) x e = by (leZ (negsuc 2147483647) y && leZ y (pos 2147483647)) refl e
-  where
-    by : (s : Bool) → (leZ (negsuc 2147483647) y && leZ y (pos 2147483647)) ≡ s → cond s (number.Is y) number.Not ≡ number.Is x → (leZ (negsuc 2147483647) x && leZ x (pos 2147483647)) ≡ true
-    by true s e = let q : y ≡ x = cc in rw (← q) s
-    by false s e = let z : _≡_ {A = ℕ} 0 1 = cc in absurd (omega arith)
-sampled-small number.Not x e = let z : _≡_ {A = ℕ} 0 1 = cc in absurd (omega arith)
+-- ---- a number from one to another
+module _ (low high x : ℤ) where
+  is-between : (v : Number) → between low high v ≡ number.Is x → (leZ low x && leZ x high) ≡ true
+  is-between (number.Is y) e = by (leZ low y && leZ y high) refl e
+    where
+      by : (s : Bool) → (leZ low y && leZ y high) ≡ s → cond s (number.Is y) number.Not ≡ number.Is x → (leZ low x && leZ x high) ≡ true
+      by true s e = let q : y ≡ x = cc in rw (← q) s
+      by false s e = let z : _≡_ {A = ℕ} 0 1 = cc in absurd (omega arith)
+  is-between number.Not e = let z : _≡_ {A = ℕ} 0 1 = cc in absurd (omega arith)
 
+-- a sample has 32 bits
 small-fits : (x : ℤ) → (leZ (negsuc 2147483647) x && leZ x (pos 2147483647)) ≡ true → SFits w32 x
 small-fits (pos n) h = record { sfits = omega (arith, leb-true n 2147483647 h) }
 small-fits (negsuc n) h = record { sfits = omega (arith, leb-true n 2147483647 (and-left _ _ h)) }
 
 pub sample-fits : (t : List ℕ) (x : ℤ) (n : ℕ) → nextOf kind.Sample t ≡ next.Number x n → SFits w32 x
 unfolding worthIn
-sample-fits t x n e = small-fits x (sampled-small (valueOf (take (lengthTo 32 (drop 1 t)) (drop 1 t))) x (next-is kind.Sample t x n e .0))
+sample-fits t x n e =
+    small-fits x (is-between (negsuc 2147483647) (pos 2147483647) x (valueOf (take (lengthTo 32 (drop 1 t)) (drop 1 t))) (next-is kind.Sample t x n e .0))
 
-pub samples-long : (n : ℕ) → length (samples n) ≡ n
-unfolding samples
-samples-long zero = refl
-samples-long (suc n) = ap suc (samples-long n)
+-- a room and a byte have eight
+pub record Small (x : ℤ) : Type 0 where
+  pub whole : x ≡ pos (natAbs x)
+  pub above : T (nonNeg x)
+  pub most : natAbs x ≤ 255
 
-pub all-samples : (n k : ℕ) → getD (samples n) k kind.Sample ≡ kind.Sample
-unfolding samples
-all-samples zero k = refl
-all-samples (suc n) zero = refl
-all-samples (suc n) (suc k) = all-samples n k
+small : (n : ℕ) → n ≤ 255 → Small (pos n)
+small n h = record { whole = refl; above = tt; most = h }
+
+few : (x : ℤ) → (leZ (pos 0) x && leZ x (pos 255)) ≡ true → Small x
+few (pos n) h = small n (leb-true n 255 (and-right (leZ (pos 0) (pos n)) _ h))
+few (negsuc n) h = absurd (false≢true h)
+
+pub room-small : (t : List ℕ) (x : ℤ) (n : ℕ) → nextOf kind.Room t ≡ next.Number x n → Small x
+unfolding worthIn
+room-small t x n e = few x (is-between (pos 0) (pos 255) x (valueOf (take (lengthTo 32 (drop 1 t)) (drop 1 t))) (next-is kind.Room t x n e .0))
+
+two-digits : (a b : ℕ) (x : ℤ) → positive (digitsOf 16 (a ∷ b ∷ [])) ≡ number.Is x → Small x
+unfolding digitsOf worthBehind positive
+two-digits a b x e = by (ltb (digitOf a) 16) refl (ltb (digitOf b) 16) refl e
+  where
+    by : (s : Bool) → ltb (digitOf a) 16 ≡ s → (t : Bool) → ltb (digitOf b) 16 ≡ t →
+        positive (upTo (2 ^ 63) (cond s (cond t (worth.Is ((0 * 16 + digitOf a) * 16 + digitOf b)) worth.Not) worth.Not)) ≡ number.Is x → Small x
+    by true s true t e =
+        let n = (0 * 16 + digitOf a) * 16 + digitOf b in
+        let l : n ≤ 255 = omega (arith, ltb-true (digitOf a) 16 s, ltb-true (digitOf b) 16 t) in
+        let h = rw (le-leb n (2 ^ 63) (omega arith), lt-ltb n (2 ^ 63) (omega arith)) at e in
+        let q : pos n ≡ x = cc h in
+        rw (← q) (small n l)
+    by true s false t e = let z : _≡_ {A = ℕ} 0 1 = cc in absurd (omega arith)
+    by false s t u e = let z : _≡_ {A = ℕ} 0 1 = cc in absurd (omega arith)
+
+pair-small : (item : List ℕ) (x : ℤ) → pairOf item ≡ number.Is x → Small x
+unfolding pairOf
+pair-small [] x e = let z : _≡_ {A = ℕ} 0 1 = cc in absurd (omega arith)
+pair-small (a ∷ []) x e = let z : _≡_ {A = ℕ} 0 1 = cc in absurd (omega arith)
+pair-small (a ∷ b ∷ []) x e = two-digits a b x e
+pair-small (a ∷ b ∷ c ∷ cs) x e =
+    let h = rw (ne-eqb (length (a ∷ b ∷ c ∷ cs)) 2 (λ l. omega arith)) at e in
+    let z : _≡_ {A = ℕ} 0 1 = cc h in
+    absurd (omega arith)
+
+pub byte-small : (t : List ℕ) (x : ℤ) (n : ℕ) → nextOf kind.Byte t ≡ next.Number x n → Small x
+unfolding worthIn
+byte-small t x n e = pair-small (take (lengthTo 32 (drop 1 t)) (drop 1 t)) x (next-is kind.Byte t x n e .0)
+
+-- ---- so many of one kind
+module _ (k : Kind) where
+  pub several-long : (n : ℕ) → length (several k n) ≡ n
+  unfolding several
+  several-long zero = refl
+  several-long (suc n) = ap suc (several-long n)
+
+  pub all-alike : (n i : ℕ) → getD (several k n) i k ≡ k
+  unfolding several
+  all-alike zero i = refl
+  all-alike (suc n) zero = refl
+  all-alike (suc n) (suc i) = all-alike n i
 
 -- ---- the loop
 -- a step that has no more items
@@ -131,6 +184,23 @@ module _ (ks : List Kind) (text : List ℕ) (was : List ℤ) where
 -- the numbers, taken out of the buffer
 pub taken-out : (r : Row) (was buffer : List ℤ) (row : Numbers) → Filled r was buffer row → take (r .count) buffer ≡ row .values
 taken-out r was buffer row f = rw (f .count, f .values) (take-append-seam (row .values) (drop (length (row .values)) was))
+
+-- the same of bytes
+set-bytes : (b : List ℕ) (k n : ℕ) → set (map pos b) k (pos n) ≡ map pos (set b k n)
+set-bytes [] k n = refl
+set-bytes (x ∷ b) zero n = refl
+set-bytes (x ∷ b) (suc k) n = ap (λ (l : List ℤ). pos x ∷ l) (set-bytes b k n)
+
+pub byte-set : (b : List ℕ) (k : ℕ) (x : ℤ) → Small x → set (map pos b) k x ≡ map pos (set b k (natAbs x))
+byte-set b k x s = ap (set (map pos b) k) (s .whole) ∙ set-bytes b k (natAbs x)
+
+sizes : (n : ℕ) (b : List ℕ) → map natAbs (take n (map pos b)) ≡ take n b
+sizes zero b = refl
+sizes (suc n) [] = refl
+sizes (suc n) (x ∷ b) = ap (λ (l : List ℕ). x ∷ l) (sizes n b)
+
+pub packet-out : (r : Row) (was : List ℤ) (buffer : List ℕ) (row : Numbers) → Filled r was (map pos buffer) row → take (r .count) buffer ≡ packetOf row
+packet-out r was buffer row f = sym (sizes (r .count) buffer) ∙ ap (map natAbs) (taken-out r was (map pos buffer) row f)
 
 -- ---- a row has no more items than it may, and takes no more bytes than there are
 pub row-count : (ks : List Kind) (t : List ℕ) → length (rowOf ks t .values) ≤ length ks

@@ -9,4 +9,5 @@ pub mod TurnLaws
 pub mod AnswerLaws
 pub mod SessionLaws
 pub mod Unchanged
+pub mod Replies
 pub mod Examples

@@ -1,13 +1,14 @@
 -- Items of a line, as a step gets them.
-use Prim.Native.Nat.{ℕ, zero, suc, _^_, _≤_, _<_}
+use Prim.Native.Nat.{ℕ, zero, suc, _+_, _-_, _^_, _≤_, _<_}
 use mathlib.Core.Path.{_≡_, refl, sym, ap, _∙_}
 use mathlib.Core.Bool.{true, false, _&&_}
-use mathlib.Core.List.{List, [], _∷_, _++_, append-nil}
+use mathlib.Core.List.{List, [], _∷_, _++_, map, append-nil}
 use native.Mathlib.Omega.{arith}
 use lib.Dec.{eqb}
 use lib.IntN.{ℤ, pos}
 use lib.Signed.{mag}
-use lib.ListN.{length, take, drop, getD, List·getD-append}
+use lib.ListN.{length, take, drop, getD, replicate, List·getD-append, length-replicate, replicate-append-replicate}
+use lib.Seq.{take-at, drop-at}
 use mir.Syntax.{w64}
 use mir.Val.{toZ, ofZ}
 use mir.Facts.{toZ-ofZ}
@@ -16,17 +17,19 @@ use denote.Enum.Declared.{tagOf}
 use borrow.Author.Tests.{lt-ltb, le-ltb}
 use Rattle.aberzhan.specs.declared.Module.{Module}
 use Rattle.aberzhan.specs.Module.{openOf, blockOf}
+use Rattle.aberzhan.specs.Polling.{pollBuffer}
 use Rattle.console.specs.declared.words.Word.{Word}
-use Rattle.console.specs.declared.words.Word.the-variants.{Start, Open, Write, Commit, Drop, Hold, Read, Block, Reset, Cards, Help, Other}
+use Rattle.console.specs.declared.words.Word.the-variants.{Start, Open, Write, Commit, Drop, Hold, Read, Poll, Block, Reset, Cards, Help, Other}
 use Rattle.console.specs.declared.unread.Why.the-variants.{TooLong, NoStep, Missing}
 use Rattle.console.specs.declared.items.Row.{Row}
+use Rattle.console.specs.declared.turns.Reply.{Reply}
 use Rattle.console.specs.Texts.{beginsWith, lengthTo}
-use Rattle.console.specs.Items.{rowOf, samples, Filled}
+use Rattle.console.specs.Items.{rowOf, samples, bytes, Filled}
 use Rattle.console.specs.Words.{wordOf, itemsOf, enough}
-use Rattle.console.specs.Unread.{stoppedBefore, sideStopped}
-use Rattle.console.specs.Turns.{nth, unreadTurn, steppedTurn, itemsTurn, withItems, withText, currentsTurn, withSamples, wordTurn, turnOf}
+use Rattle.console.specs.Unread.{stoppedBefore, sideStopped, packetStopped}
+use Rattle.console.specs.Turns.{noReply, nth, unreadTurn, steppedTurn, toldReply, polledTurn, itemsTurn, withItems, withText, packetTurn, currentsTurn, withSamples, wordTurn, turnOf}
 use Rattle.console.proofs.words.Word as Word-type
-use Rattle.console.proofs.ItemLaws.{taken-out}
+use Rattle.console.proofs.ItemLaws.{taken-out, packet-out}
 
 -- a number that is read from the buffer is the number
 pub as-read : (x : List ℤ) (k : ℕ) → mag (nth x k) < 2 ^ 63 → toZ w64 (ofZ w64 (nth x k)) ≡ nth x k
@@ -73,6 +76,7 @@ items-over m Hold x = rw (over x lowest 0) refl
 items-over m Read x = rw (over x lowest 0, over x lowest 1) refl
 items-over m Reset x = rw (over x lowest 0) refl
 items-over m Open x = refl
+items-over m Poll x = refl
 items-over m Block x = refl
 items-over m Cards x = refl
 items-over m Help x = refl
@@ -81,7 +85,7 @@ items-over m Other x = refl
 -- ---- an arm of a match that stands for several words, by their tags
 -- a word without items of its own
 abbrev bare : List ℕ
-bare = 1 ∷ 7 ∷ 11 ∷ []
+bare = 1 ∷ 7 ∷ 8 ∷ 12 ∷ []
 
 pub no-items : (m : Module) (w : Word) (x : List ℤ) → OneOf bare (tagOf Word-type.the-type w) → unreadTurn m NoStep ≡ itemsTurn m w x
 no-items m Start x h = absurd (miss bare 0 tt h)
@@ -91,15 +95,16 @@ no-items m Commit x h = absurd (miss bare 3 tt h)
 no-items m Drop x h = absurd (miss bare 4 tt h)
 no-items m Hold x h = absurd (miss bare 5 tt h)
 no-items m Read x h = absurd (miss bare 6 tt h)
+no-items m Poll x h = refl
 no-items m Block x h = refl
-no-items m Reset x h = absurd (miss bare 8 tt h)
-no-items m Cards x h = absurd (miss bare 9 tt h)
-no-items m Help x h = absurd (miss bare 10 tt h)
+no-items m Reset x h = absurd (miss bare 9 tt h)
+no-items m Cards x h = absurd (miss bare 10 tt h)
+no-items m Help x h = absurd (miss bare 11 tt h)
 no-items m Other x h = refl
 
 -- a word whose items are numbers and names alone
 abbrev itemed : List ℕ
-itemed = 0 ∷ 2 ∷ 3 ∷ 4 ∷ 5 ∷ 6 ∷ 8 ∷ 9 ∷ 10 ∷ []
+itemed = 0 ∷ 2 ∷ 3 ∷ 4 ∷ 5 ∷ 6 ∷ 9 ∷ 10 ∷ 11 ∷ []
 
 pub with-items : (a b : ℕ) (m : Module) (w : Word) (rest : List ℕ) → OneOf itemed (tagOf Word-type.the-type w) → withItems m w rest ≡ wordTurn a b m w rest
 with-items a b m Start rest h = refl
@@ -109,11 +114,12 @@ with-items a b m Commit rest h = refl
 with-items a b m Drop rest h = refl
 with-items a b m Hold rest h = refl
 with-items a b m Read rest h = refl
-with-items a b m Block rest h = absurd (miss itemed 7 tt h)
+with-items a b m Poll rest h = absurd (miss itemed 7 tt h)
+with-items a b m Block rest h = absurd (miss itemed 8 tt h)
 with-items a b m Reset rest h = refl
 with-items a b m Cards rest h = refl
 with-items a b m Help rest h = refl
-with-items a b m Other rest h = absurd (miss itemed 11 tt h)
+with-items a b m Other rest h = absurd (miss itemed 12 tt h)
 
 -- ---- a line with numbers and names alone, once they stand in a buffer
 module _ (m : Module) (w : Word) (rest : List ℕ) (r : Row) (b : List ℤ) (f : Filled r lowest b (rowOf (itemsOf w) rest)) where
@@ -142,6 +148,36 @@ module _ (m : Module) (rest : List ℕ) (r : Row) (was b : List ℤ) (f : Filled
       let x = rowOf (itemsOf Open) rest .values in
       let p : nth x 0 ≡ nth b 0 = sym (ap (λ (y : List ℤ). nth y 0) (f .values) ∙ List·getD-append x (drop (length x) was) (pos 0) 0 (omega (arith, f .count))) in
       simp (← f .count, le-ltb (r .count) 1 h, ← f .bytes, q, p)
+
+-- ---- a line with a packet
+-- the reply is put at the front of bytes that are 0
+module _ (m : Module) (packet : List ℕ) (room : ℕ) (h : room ≤ 255) where
+  halves : noReply .bytes ≡ replicate room 0 ++ replicate (255 - room) 0
+  unfolding noReply
+  halves =
+      let e : room + (255 - room) ≡ 255 = omega arith in
+      sym (replicate-append-replicate room (255 - room) 0 ∙ ap (λ (n : ℕ). replicate n 0) e)
+
+  front : take room (noReply .bytes) ≡ replicate room 0
+  front = ap (take room) halves ∙ take-at (replicate room 0) (replicate (255 - room) 0) room (length-replicate room 0)
+
+  back : drop room (noReply .bytes) ≡ replicate (255 - room) 0
+  back = ap (drop room) halves ∙ drop-at (replicate room 0) (replicate (255 - room) 0) room (length-replicate room 0)
+
+  pub reply-bytes : (r : Reply) (b : List ℕ) → r ≡ noReply → b ≡ pollBuffer m packet (take room (r .bytes)) → b ++ drop room (r .bytes) ≡ toldReply m packet room .bytes
+  unfolding toldReply
+  reply-bytes r b q e =
+      ap (λ (t : List ℕ). t ++ drop room (r .bytes)) (e ∙ ap (pollBuffer m packet) (ap (λ (x : Reply). take room (x .bytes)) q ∙ front))
+      ∙ ap (λ (t : List ℕ). pollBuffer m packet (replicate room 0) ++ t) (ap (λ (x : Reply). drop room (x .bytes)) q ∙ back)
+
+module _ (m : Module) (room : ℕ) (text : List ℕ) (r : Row) (was : List ℤ) (b : List ℕ) (f : Filled r was (map pos b) (rowOf bytes text)) where
+  pub odd-byte : r .taken < length text → unreadTurn m (packetStopped (r .count)) ≡ packetTurn m room text
+  unfolding packetTurn
+  odd-byte q = simp (← f .count, ← f .bytes, lt-ltb (r .taken) (length text) q)
+
+  pub whole-packet : length text ≤ r .taken → polledTurn m (take (r .count) b) room ≡ packetTurn m room text
+  unfolding packetTurn
+  whole-packet q = simp (packet-out r was b (rowOf bytes text) f, ← f .bytes, le-ltb (r .taken) (length text) q)
 
 -- ---- a line with samples
 module _ (b : ℕ) (m : Module) (v : List ℤ) (text : List ℕ) (s : Row) (was i : List ℤ) (g : Filled s was i (rowOf (samples b) text)) where

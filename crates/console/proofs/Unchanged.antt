@@ -4,7 +4,7 @@ use mathlib.Core.Path.{_≡_, refl, ap}
 use mathlib.Core.Bool.{Bool, true, false, cond, _&&_, false≢true}
 use mathlib.Core.List.{List, [], _∷_}
 use mathlib.Core.Option.{Option, none, some}
-use lib.Dec.{eqb, ltb}
+use lib.Dec.{eqb, leb, ltb}
 use lib.IntN.{ℤ}
 use lib.ListN.{length, take, drop}
 use Rattle.card.specs.declared.Card.{Card}
@@ -23,12 +23,18 @@ use Rattle.meter.specs.Core.{core}
 use Rattle.meter.specs.Blocks.{blockDone, answered, voltsIn, voltsOf, blockOf as meterBlock}
 use Rattle.port.specs.declared.Held.{Held}
 use Rattle.port.specs.Holds.{copied}
+use Rattle.packet.specs.Replies.{replyBytes}
 use Rattle.desk.specs.declared.Desk.{Desk}
 use Rattle.desk.specs.Desks.{opening, writing, finished, dropping}
 use Rattle.aberzhan.specs.declared.Module.{Module}
 use Rattle.aberzhan.specs.declared.Stepped.{Stepped}
+use Rattle.aberzhan.specs.declared.Polled.{Polled}
 use Rattle.aberzhan.specs.Module.{deskOf, watchOf, withMeter, withWatch, portAt, atPort, refusal, atDesk, committing, notHeld, holding}
 use Rattle.aberzhan.specs.Module.{openOf, writeOf, commitOf, dropOf, holdOf, readOf, blockOf, resetOf}
+use Rattle.aberzhan.specs.Polling.{replyOf, afterReply, pollOf}
+use Rattle.console.specs.declared.words.Kind.the-variants as kind
+use Rattle.console.specs.declared.items.Next.{Next}
+use Rattle.console.specs.declared.items.Next.the-variants as next
 use Rattle.console.specs.declared.words.Word.{Word}
 use Rattle.console.specs.declared.words.Word.the-variants as word
 use Rattle.console.specs.declared.turns.Said.{Said}
@@ -37,9 +43,10 @@ use Rattle.console.specs.declared.turns.Turn.{Turn}
 use Rattle.console.specs.declared.unread.Why.the-variants as why
 use Rattle.console.specs.Texts.{beginsWith, lengthTo}
 use Rattle.console.specs.Words.{wordOf, itemsOf, enough}
-use Rattle.console.specs.Items.{rowOf, samples}
-use Rattle.console.specs.Unread.{stoppedBefore, sideStopped}
-use Rattle.console.specs.Turns.{unreadTurn, saidOf, steppedTurn, heldTurn, begunBy, startedTurn, nth, itemsTurn, withItems, withText, currentsTurn, withSamples, wordTurn, turnOf}
+use Rattle.console.specs.Items.{nextOf, rowOf, samples, bytes, packetOf}
+use Rattle.console.specs.Unread.{stoppedBefore, sideStopped, packetStopped}
+use Rattle.console.specs.Turns.{unreadTurn, saidOf, steppedTurn, heldTurn, polledSaid, polledTurn, begunBy, startedTurn, nth, itemsTurn, withItems, withText}
+use Rattle.console.specs.Turns.{packetTurn, behindRoom, withPacket, currentsTurn, withSamples, wordTurn, turnOf}
 use Rattle.console.specs.Session.{lineTurn}
 use Rattle.console.specs.Unchanged.{ChangesNothing}
 
@@ -50,6 +57,7 @@ saysNo (said.Refused n) = true
 saysNo said.Done = false
 saysNo (said.Value x) = false
 saysNo said.Held = false
+saysNo said.Polled = false
 saysNo said.Cards = false
 saysNo said.Help = false
 
@@ -140,6 +148,20 @@ read-kept : (m : Module) (port : ℤ) (a : ByteAddr) → readOf m port a .after 
 unfolding readOf
 read-kept m port a = refl
 
+-- a poll by whether its reply fits
+abbrev answering : Module → List ℕ → Bool → Polled
+answering m packet fits =
+    let r = replyOf m packet in
+    cond fits (record { answer = answer.Done; length = length (replyBytes r); after = afterReply r m }) (record { answer = answer.Refused 21; length = 0; after = m })
+
+poll-kept : (m : Module) (packet : List ℕ) (room : ℕ) → Keeps m (polledTurn m packet room)
+unfolding pollOf
+poll-kept m packet room = by (leb (length (replyBytes (replyOf m packet))) room)
+  where
+    by : (fits : Bool) → saysNo (polledSaid (answering m packet fits .answer)) ≡ true → answering m packet fits .after ≡ m
+    by true e = absurd (false≢true e)
+    by false e = refl
+
 -- ---- lines
 items-kept : (m : Module) (w : Word) (x : List ℤ) → Keeps m (itemsTurn m w x)
 items-kept m word.Start x = start-kept m _
@@ -152,6 +174,7 @@ items-kept m word.Reset x = reset-kept m _
 items-kept m word.Cards x = λ e. refl
 items-kept m word.Help x = λ e. refl
 items-kept m word.Open x = λ e. refl
+items-kept m word.Poll x = λ e. refl
 items-kept m word.Block x = λ e. refl
 items-kept m word.Other x = λ e. refl
 
@@ -174,6 +197,21 @@ text-kept m rest =
     either m (ltb (length (row .values)) 1) (unreadTurn m (stoppedBefore (itemsOf word.Open) behind)) (cond spaced steps (unreadTurn m why.Missing)) (λ e. refl)
     (either m spaced steps (unreadTurn m why.Missing) (open-kept m (nth (row .values) 0) (drop 1 behind)) (λ e. refl))
 
+packet-kept : (m : Module) (room : ℕ) (text : List ℕ) → Keeps m (packetTurn m room text)
+unfolding packetTurn
+packet-kept m room text =
+    let row = rowOf bytes text in
+    either m (ltb (row .bytes) (length text)) (unreadTurn m (packetStopped (length (row .values)))) (polledTurn m (packetOf row) room) (λ e. refl)
+    (poll-kept m (packetOf row) room)
+
+poll-line-kept : (m : Module) (rest : List ℕ) → Keeps m (withPacket m rest)
+unfolding withPacket
+poll-line-kept m rest = by (nextOf kind.Room rest)
+  where
+    by : (n : Next) → Keeps m (behindRoom m rest n)
+    by (next.Number room n) = packet-kept m _ (drop n rest)
+    by next.Not = λ e. refl
+
 currents-kept : (b : ℕ) (m : Module) (v : List ℤ) (text : List ℕ) → Keeps m (currentsTurn b m v text)
 unfolding currentsTurn
 currents-kept b m v text =
@@ -191,6 +229,7 @@ samples-kept a b m rest =
 
 word-kept : (a b : ℕ) (m : Module) (w : Word) (rest : List ℕ) → Keeps m (wordTurn a b m w rest)
 word-kept a b m word.Open rest = text-kept m rest
+word-kept a b m word.Poll rest = poll-line-kept m rest
 word-kept a b m word.Block rest = samples-kept a b m rest
 word-kept a b m word.Other rest = λ e. refl
 word-kept a b m word.Start rest = with-items-kept m word.Start rest

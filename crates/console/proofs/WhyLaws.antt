@@ -6,7 +6,7 @@ use native.Mathlib.Omega.{arith}
 use lib.ListN.{length, take, drop}
 use Rattle.serial.specs.Ascii.{ascii}
 use Rattle.console.specs.declared.unread.Why.{Why}
-use Rattle.console.specs.declared.unread.Why.the-variants.{TooLong, NoStep, Missing, NotNumber, NotField, NotRegister, More, NoBar, TooMany, NotSample}
+use Rattle.console.specs.declared.unread.Why.the-variants.{TooLong, NoStep, Missing, NotNumber, NotField, NotRegister, More, NoBar, TooMany, NotSample, NotRoom, NotByte, TooManyBytes}
 use Rattle.console.specs.Unread.{whyWords}
 use Rattle.console.specs.Inside.{placeOf}
 
@@ -23,8 +23,11 @@ rows =
     ++ ascii "no bar between voltages and currents            "
     ++ ascii "more than 8,192 samples on a side               "
     ++ ascii "not a 32-bit number                             "
+    ++ ascii "not a number from 0 to 255                      "
+    ++ ascii "not two hexadecimal digits                      "
+    ++ ascii "more than 4,096 bytes                           "
 
-pub words-at : (why : Why) → take (placeOf why .end - placeOf why .from) (drop (placeOf why .from) rows) ≡ ascii (whyWords why)
+pub words-at : (why : Why) → take (placeOf why .to - placeOf why .from) (drop (placeOf why .from) rows) ≡ ascii (whyWords why)
 unfolding placeOf whyWords rows ascii
 words-at TooLong = refl
 words-at NoStep = refl
@@ -36,6 +39,9 @@ words-at More = refl
 words-at NoBar = refl
 words-at TooMany = refl
 words-at NotSample = refl
+words-at NotRoom = refl
+words-at NotByte = refl
+words-at TooManyBytes = refl
 
 words-short : (why : Why) → length (ascii (whyWords why)) ≤ 48
 unfolding whyWords ascii
@@ -49,6 +55,9 @@ words-short More = omega arith
 words-short NoBar = omega arith
 words-short TooMany = omega arith
 words-short NotSample = omega arith
+words-short NotRoom = omega arith
+words-short NotByte = omega arith
+words-short TooManyBytes = omega arith
 
 -- and are no longer than a row
 module _ (why : Why) (text : List ℕ) (e : text ≡ ascii (whyWords why)) where
@@ -60,8 +69,8 @@ module _ (why : Why) (text : List ℕ) (e : text ≡ ascii (whyWords why)) where
 
 -- the place is within the table
 pub record Within (why : Why) : Type 0 where
-  pub begins : placeOf why .from ≤ placeOf why .end
-  pub ends : placeOf why .end ≤ 480
+  pub begins : placeOf why .from ≤ placeOf why .to
+  pub ends : placeOf why .to ≤ 624
 
 pub within : (why : Why) → Within why
 unfolding placeOf
@@ -75,3 +84,6 @@ within More = record { begins = omega arith; ends = omega arith }
 within NoBar = record { begins = omega arith; ends = omega arith }
 within TooMany = record { begins = omega arith; ends = omega arith }
 within NotSample = record { begins = omega arith; ends = omega arith }
+within NotRoom = record { begins = omega arith; ends = omega arith }
+within NotByte = record { begins = omega arith; ends = omega arith }
+within TooManyBytes = record { begins = omega arith; ends = omega arith }

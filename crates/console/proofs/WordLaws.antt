@@ -1,17 +1,20 @@
 -- The search for a line's word, word by word; and the items that a step has.
-use Prim.Native.Nat.{ℕ, zero, suc, _≤_, _<_}
+use Prim.Native.Nat.{ℕ, zero, suc, _<_}
 use mathlib.Core.Path.{_≡_, refl}
 use mathlib.Core.Bool.{true, false, cond, _&&_}
-use mathlib.Core.List.{List, _∷_}
+use mathlib.Core.List.{List, [], _∷_}
 use native.Mathlib.Omega.{arith}
 use lib.Dec.{leb, ltb}
-use lib.ListN.{length, getD}
+use lib.ListN.{getD}
+use types.Run.{OneOf, miss}
+use denote.Enum.Declared.{tagOf}
 use borrow.Author.Tests.{le-leb, le-ltb}
 use Rattle.serial.specs.Texts.{sameText}
 use Rattle.console.specs.declared.words.Word.{Word}
-use Rattle.console.specs.declared.words.Word.the-variants.{Start, Open, Write, Commit, Drop, Hold, Read, Block, Reset, Cards, Help, Other}
+use Rattle.console.specs.declared.words.Word.the-variants.{Start, Open, Write, Commit, Drop, Hold, Read, Poll, Block, Reset, Cards, Help, Other}
 use Rattle.console.specs.declared.words.Kind.the-variants as kind
 use Rattle.console.specs.Words.{lettersOf, firstOf, itemsOf}
+use Rattle.console.proofs.words.Word as Word-type
 
 module _ (w : Word) (ws : List Word) (item : List ℕ) where
   pub chosen : sameText (lettersOf w) item ≡ true → firstOf (w ∷ ws) item ≡ w
@@ -50,23 +53,32 @@ read-number zero h = refl
 read-number (suc zero) h = absurd (h refl)
 read-number (suc (suc k)) h = refl
 
--- the one item of a step
-pub one-number : (w : Word) (k : ℕ) → length (itemsOf w) ≤ 1 → getD (itemsOf w) k kind.Number ≡ kind.Number
+pub poll-room : (k : ℕ) → k < 1 → getD (itemsOf Poll) k kind.Number ≡ kind.Room
 unfolding itemsOf
-one-number Start k h = absurd (omega arith)
-one-number Write k h = absurd (omega arith)
-one-number Read k h = absurd (omega arith)
-one-number Open zero h = refl
-one-number Open (suc k) h = refl
-one-number Commit zero h = refl
-one-number Commit (suc k) h = refl
-one-number Drop zero h = refl
-one-number Drop (suc k) h = refl
-one-number Hold zero h = refl
-one-number Hold (suc k) h = refl
-one-number Block k h = refl
-one-number Reset zero h = refl
-one-number Reset (suc k) h = refl
-one-number Cards k h = refl
-one-number Help k h = refl
-one-number Other k h = refl
+poll-room zero h = refl
+poll-room (suc k) h = absurd (omega arith)
+
+-- a word that has no item but one number
+abbrev plain : List ℕ
+plain = 1 ∷ 3 ∷ 4 ∷ 5 ∷ 8 ∷ 9 ∷ 10 ∷ 11 ∷ 12 ∷ []
+
+pub plain-number : (w : Word) (k : ℕ) → OneOf plain (tagOf Word-type.the-type w) → getD (itemsOf w) k kind.Number ≡ kind.Number
+unfolding itemsOf
+plain-number Start k h = absurd (miss plain 0 tt h)
+plain-number Open zero h = refl
+plain-number Open (suc k) h = refl
+plain-number Write k h = absurd (miss plain 2 tt h)
+plain-number Commit zero h = refl
+plain-number Commit (suc k) h = refl
+plain-number Drop zero h = refl
+plain-number Drop (suc k) h = refl
+plain-number Hold zero h = refl
+plain-number Hold (suc k) h = refl
+plain-number Read k h = absurd (miss plain 6 tt h)
+plain-number Poll k h = absurd (miss plain 7 tt h)
+plain-number Block k h = refl
+plain-number Reset zero h = refl
+plain-number Reset (suc k) h = refl
+plain-number Cards k h = refl
+plain-number Help k h = refl
+plain-number Other k h = refl

@@ -1,9 +1,9 @@
 -- The lines that answer a turn, from reference/CONSOLE.md, "Answers". One space parts two items; a line feed, 10, ends a line.
-use Prim.Native.Nat.{ℕ}
+use Prim.Native.Nat.{ℕ, _+_, _/_, _%_}
 use Prim.Native.String.{String}
 use mathlib.Core.Bool.{Bool, cond}
 use mathlib.Core.List.{List, [], _∷_, _++_}
-use lib.Dec.{leb, eqb}
+use lib.Dec.{leb, ltb, eqb}
 use lib.IntN.{ℤ}
 use lib.ListN.{take}
 use Rattle.serial.specs.Ascii.{ascii}
@@ -15,6 +15,7 @@ use Rattle.refusal.specs.Words.{wordsOf}
 use Rattle.console.specs.declared.unread.Why.{Why}
 use Rattle.console.specs.declared.turns.Said.{Said}
 use Rattle.console.specs.declared.turns.Said.the-variants as said
+use Rattle.console.specs.declared.turns.Reply.{Reply}
 use Rattle.console.specs.declared.turns.Told.{Told}
 use Rattle.console.specs.declared.turns.Turn.{Turn}
 use Rattle.console.specs.Unread.{whyWords}
@@ -63,6 +64,19 @@ alarmsText alarms = ascii " " ++ alarmText (ascii "SAG") (alarms .sag) ++ ascii 
 unfoldable pub heldLine : ℕ → Serial → Clips → Alarms → List ℕ
 heldLine number serial clips alarms = ascii "ok " ++ decimal number ++ ascii " " ++ digitsText serial ++ clipsText clips ++ alarmsText alarms ++ end
 
+-- a digit: `0` to `9`, and then `A` to `F`
+unfoldable pub hexDigit : ℕ → ℕ
+hexDigit d = cond (ltb d 10) (d + 48) (d + 55)
+
+-- bytes, each as two hexadecimal digits behind a space
+unfoldable pub bytesText : List ℕ → List ℕ
+bytesText [] = []
+bytesText (b ∷ bs) = 32 ∷ hexDigit (b / 16) ∷ hexDigit (b % 16) ∷ bytesText bs
+
+-- ok BYTES
+unfoldable pub replyLine : Reply → List ℕ
+replyLine r = ascii "ok" ++ bytesText (take (r .length) (r .bytes)) ++ end
+
 -- ok FORCE WAITING
 unfoldable pub cardsLine : Serial → Serial → List ℕ
 cardsLine force waiting = ascii "ok " ++ cardText force ++ ascii " " ++ cardText waiting ++ end
@@ -80,6 +94,7 @@ helpLines =
     ∷ "# reset MASK: clears alarms: 0x200000 sag, 0x200 surge, 0x200200 both"
     ∷ "# hold PORT: keeps the last closed interval; answers its number, its card's serial, how many of its voltages and currents were clipped, and both alarms as they are now"
     ∷ "# read PORT REGISTER: of what is held; a name (VA_RMS, WATT_A, PA_POS_CNT, MIN1 ..) or a byte address"
+    ∷ "# poll ROOM BYTES: a packet of the serial line, its bytes as two hexadecimal digits each; answers the reply's bytes; ROOM bytes are lent for it"
     ∷ "# cards: the serials of the card in force and of the one that waits"
     ∷ "# help: these lines"
     ∷ "# A terminal cuts a pasted line at 4,095 bytes: send long blocks from a file, or as several blocks."
@@ -93,13 +108,14 @@ linesOf (s ∷ ss) = ascii s ++ end ++ linesOf ss
 unfoldable pub helpText : List ℕ
 helpText = linesOf helpLines
 
--- what is said; a hold says a number, a serial, counts and alarms, and `cards` says two serials
+-- what is said; a hold says a number, a serial, counts and alarms, a poll a reply, and `cards` two serials
 unfoldable pub saidText : Said → Told → List ℕ
 saidText (said.Unread why) t = unreadLine why
 saidText (said.Refused n) t = refusedLine n
 saidText said.Done t = okLine
 saidText (said.Value x) t = valueLine x
 saidText said.Held t = heldLine (t .number) (t .serial) (t .clips) (t .alarms)
+saidText said.Polled t = replyLine (t .reply)
 saidText said.Cards t = cardsLine (t .serial) (t .waiting)
 saidText said.Help t = helpText
 

@@ -1,9 +1,9 @@
--- The items of a step: numbers, names and samples in a row, each behind one space.
+-- The items of a step: numbers, names, samples and bytes in a row, each behind one space.
 use Prim.Native.Nat.{ℕ, zero, suc, _+_}
 use mathlib.Core.Path.{_≡_}
 use mathlib.Core.Bool.{cond, _&&_}
-use mathlib.Core.List.{List, [], _∷_, _++_}
-use lib.IntN.{ℤ, pos, negsuc}
+use mathlib.Core.List.{List, [], _∷_, _++_, map}
+use lib.IntN.{ℤ, pos, negsuc, natAbs}
 use lib.Signed.{leZ}
 use lib.ListN.{length, take, drop}
 use Rattle.address.specs.Addresses.{byteOf}
@@ -18,7 +18,7 @@ use Rattle.console.specs.declared.items.Next.{Next}
 use Rattle.console.specs.declared.items.Next.the-variants as next
 use Rattle.console.specs.declared.items.Row.{Row}
 use Rattle.console.specs.Texts.{beginsWith, lengthTo}
-use Rattle.console.specs.Numbers.{valueOf}
+use Rattle.console.specs.Numbers.{valueOf, pairOf}
 
 -- ---- what an item is worth
 
@@ -32,18 +32,20 @@ abbrev pub byteAddress : Named → List ℕ → Number
 byteAddress (name.Is w) item = number.Is (pos (byteOf (record { 0 = w }) .0))
 byteAddress name.Not item = valueOf item
 
--- a number from -2^31 to 2^31 - 1
-abbrev pub sampled : Number → Number
-sampled (number.Is x) = cond (leZ (negsuc 2147483647) x && leZ x (pos 2147483647)) (number.Is x) number.Not
-sampled number.Not = number.Not
+-- a number from one to another
+abbrev pub between : ℤ → ℤ → Number → Number
+between low high (number.Is x) = cond (leZ low x && leZ x high) (number.Is x) number.Not
+between low high number.Not = number.Not
 
--- where an item of this kind must stand: `start` takes a register's word address, `read` its byte address
+-- where an item of this kind must stand: `start` takes a register's word address, `read` its byte address; a sample is from -2^31 to 2^31 - 1
 unfoldable pub worthIn : Kind → List ℕ → Number
 worthIn kind.Number item = valueOf item
 worthIn kind.Field item = ownNumber (fieldNamed item) item
 worthIn kind.Slot item = ownNumber (registerNamed item) item
 worthIn kind.Register item = byteAddress (registerNamed item) item
-worthIn kind.Sample item = sampled (valueOf item)
+worthIn kind.Sample item = between (negsuc 2147483647) (pos 2147483647) (valueOf item)
+worthIn kind.Room item = between (pos 0) (pos 255) (valueOf item)
+worthIn kind.Byte item = pairOf item
 
 -- ---- an item, and the bytes that it takes with its space
 
@@ -76,13 +78,27 @@ unfoldable pub rowOf : List Kind → List ℕ → Numbers
 rowOf [] text = none
 rowOf (k ∷ ks) text = before (nextOf k text) (λ n. rowOf ks (drop n text))
 
--- so many samples
-unfoldable pub samples : ℕ → List Kind
-samples zero = []
-samples (suc n) = kind.Sample ∷ samples n
+-- so many of one kind
+unfoldable pub several : Kind → ℕ → List Kind
+several k zero = []
+several k (suc n) = k ∷ several k n
+
+abbrev pub samples : ℕ → List Kind
+samples n = several kind.Sample n
+
+-- the bytes of a packet, of which there are at most 4,096
+abbrev pub bytes : List Kind
+bytes = several kind.Byte 4096
+
+abbrev pub packetOf : Numbers → List ℕ
+packetOf row = map natAbs (row .values)
 
 -- the numbers stand at the start of a buffer; behind them it is as it was
 pub record Filled (r : Row) (was buffer : List ℤ) (row : Numbers) : Type 0 where
   pub count : r .count ≡ length (row .values)
   pub bytes : r .taken ≡ row .bytes
   pub values : buffer ≡ row .values ++ drop (length (row .values)) was
+
+-- the same of a buffer of bytes
+abbrev pub FilledBytes : Row → List ℕ → List ℕ → Numbers → Type 0
+FilledBytes r was buffer row = Filled r (map pos was) (map pos buffer) row

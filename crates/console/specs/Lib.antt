@@ -9,3 +9,4 @@ pub mod Inside
 pub mod Answers
 pub mod Session
 pub mod Unchanged
+pub mod Replies

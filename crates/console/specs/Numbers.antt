@@ -1,10 +1,10 @@
--- A number as a line has it: decimal with an optional `-`, or `0x` and hexadecimal digits, within the range of i64.
+-- A number as a line has it: decimal with an optional `-`, or `0x` and hexadecimal digits, within the range of i64; and a byte.
 use Prim.Native.Nat.{ℕ, _+_, _-_, _*_, _^_}
 use mathlib.Core.Bool.{cond, _&&_}
 use mathlib.Core.List.{List, [], _∷_}
-use lib.Dec.{leb, ltb}
+use lib.Dec.{leb, ltb, eqb}
 use lib.IntN.{pos, negℤ}
-use lib.ListN.{drop}
+use lib.ListN.{length, drop}
 use Rattle.console.specs.declared.numerals.Worth.{Worth}
 use Rattle.console.specs.declared.numerals.Worth.the-variants as worth
 use Rattle.console.specs.declared.numerals.Number.{Number}
@@ -49,3 +49,7 @@ valueOf text =
     cond (beginsWith (48 ∷ 120 ∷ []) text) (positive (digitsOf 16 (drop 2 text)))
     (cond (beginsWith (45 ∷ []) text) (negative (digitsOf 10 (drop 1 text)))
     (positive (digitsOf 10 text)))
+
+-- exactly two hexadecimal digits, without `0x`
+unfoldable pub pairOf : List ℕ → Number
+pairOf text = cond (eqb (length text) 2) (positive (digitsOf 16 text)) number.Not

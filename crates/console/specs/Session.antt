@@ -70,16 +70,16 @@ written s = record { «module» = s .«module»; kept = s .kept; used = 0 }
 -- the bytes kept are in the line's buffer, and those of the answers in theirs, with room for so many more; and what the buffers hold
 pub record Ready (s : Session) (line out : List ℕ) (v i : List ℤ) (answers : ℕ) : Type 0 where
   pub kept : s .kept ≤ length line
-  pub used : s .used + 1280 * answers ≤ length out
+  pub used : s .used + 1408 * answers ≤ length out
   pub line-room : length line ≡ 131073
   pub v-room : length v ≡ 8192
   pub i-room : length i ≡ 8192
 
--- a read of 256 bytes ends at most so many lines, and no answer is longer than 1,280 bytes
+-- a read of 256 bytes ends at most so many lines, and no answer is longer than 1,408 bytes
 pub record Rooms (chunk line out : List ℕ) (v i : List ℤ) : Type 0 where
   pub chunk-room : length chunk ≡ 256
   pub line-room : length line ≡ 131073
-  pub out-room : length out ≡ 327680
+  pub out-room : length out ≡ 360448
   pub v-room : length v ≡ 8192
   pub i-room : length i ≡ 8192
 

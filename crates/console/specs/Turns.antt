@@ -1,10 +1,10 @@
 -- What a line comes to: the step that it is, handed to the module, and what is said of it.
-use Prim.Native.Nat.{ℕ}
+use Prim.Native.Nat.{ℕ, _-_}
 use mathlib.Core.Bool.{cond, _&&_}
-use mathlib.Core.List.{List, [], _∷_}
+use mathlib.Core.List.{List, [], _∷_, _++_}
 use lib.Dec.{eqb, ltb}
-use lib.IntN.{ℤ, pos}
-use lib.ListN.{length, take, drop, getD}
+use lib.IntN.{ℤ, pos, natAbs}
+use lib.ListN.{length, take, drop, getD, replicate}
 use Rattle.serial.specs.Serials.{noSerial}
 use Rattle.address.specs.Addresses.{wordAddr, byteAddr}
 use Rattle.sample.specs.Sums.{noClips}
@@ -20,24 +20,33 @@ use Rattle.aberzhan.specs.declared.Holding.{Holding}
 use Rattle.aberzhan.specs.declared.Looked.{Looked}
 use Rattle.aberzhan.specs.Module.{startOf, openOf, writeOf, commitOf, dropOf, holdOf, readOf, blockOf, resetOf}
 use Rattle.aberzhan.specs.Cards.{cardsOf}
+use Rattle.aberzhan.specs.Polling.{pollOf, pollBuffer}
 use Rattle.console.specs.declared.words.Word.{Word}
 use Rattle.console.specs.declared.words.Word.the-variants as word
+use Rattle.console.specs.declared.words.Kind.the-variants as kind
+use Rattle.console.specs.declared.items.Next.{Next}
+use Rattle.console.specs.declared.items.Next.the-variants as next
 use Rattle.console.specs.declared.unread.Why.{Why}
 use Rattle.console.specs.declared.unread.Why.the-variants as why
 use Rattle.console.specs.declared.turns.Said.{Said}
 use Rattle.console.specs.declared.turns.Said.the-variants as said
+use Rattle.console.specs.declared.turns.Reply.{Reply}
 use Rattle.console.specs.declared.turns.Told.{Told}
 use Rattle.console.specs.declared.turns.Turn.{Turn}
 use Rattle.console.specs.Texts.{beginsWith, lengthTo}
-use Rattle.console.specs.Items.{rowOf, samples}
+use Rattle.console.specs.Items.{nextOf, rowOf, samples, bytes, packetOf}
 use Rattle.console.specs.Words.{wordOf, itemsOf, enough}
-use Rattle.console.specs.Unread.{stoppedBefore, sideStopped}
+use Rattle.console.specs.Unread.{stoppedBefore, sideStopped, packetStopped}
 
 -- ---- what is said
 
--- without a number, serials, counts and alarms
+-- no byte of 255
+unfoldable pub noReply : Reply
+noReply = record { bytes = replicate 255 0; length = 0 }
+
+-- without a number, serials, counts, alarms and a reply
 abbrev pub barely : Said → Told
-barely s = record { said = s; number = 0; serial = noSerial; clips = noClips; alarms = noAlarms; waiting = noSerial }
+barely s = record { said = s; number = 0; serial = noSerial; clips = noClips; alarms = noAlarms; waiting = noSerial; reply = noReply }
 
 abbrev pub plainly : Said → Module → Turn
 plainly s m = record { told = barely s; after = m }
@@ -59,7 +68,15 @@ heldSaid (answer.Refused n) = said.Refused n
 -- an interval's number, its serial and its counts of clipped samples; and the alarms
 abbrev pub heldTurn : Holding → Turn
 heldTurn h = record {
-  told = record { said = heldSaid (h .answer); number = h .number; serial = h .serial; clips = h .clips; alarms = h .alarms; waiting = noSerial };
+  told = record {
+    said = heldSaid (h .answer);
+    number = h .number;
+    serial = h .serial;
+    clips = h .clips;
+    alarms = h .alarms;
+    waiting = noSerial;
+    reply = noReply;
+  };
   after = h .after;
 }
 
@@ -74,7 +91,34 @@ readTurn l = plainly (readSaid (l .answer)) (l .after)
 abbrev pub cardsTurn : Module → Turn
 cardsTurn m =
     let c = cardsOf m in
-    record { told = record { said = said.Cards; number = 0; serial = c .force; clips = noClips; alarms = noAlarms; waiting = c .waiting }; after = m }
+    record {
+      told = record { said = said.Cards; number = 0; serial = c .force; clips = noClips; alarms = noAlarms; waiting = c .waiting; reply = noReply };
+      after = m;
+    }
+
+abbrev pub polledSaid : Answer → Said
+polledSaid answer.Done = said.Polled
+polledSaid (answer.Refused n) = said.Refused n
+
+-- the reply, of so many bytes, at the front of the room that is lent for it
+unfoldable pub toldReply : Module → List ℕ → ℕ → Reply
+toldReply m packet room = record { bytes = pollBuffer m packet (replicate room 0) ++ replicate (255 - room) 0; length = pollOf m packet room .length }
+
+abbrev pub polledTurn : Module → List ℕ → ℕ → Turn
+polledTurn m packet room =
+    let p = pollOf m packet room in
+    record {
+      told = record {
+        said = polledSaid (p .answer);
+        number = 0;
+        serial = noSerial;
+        clips = noClips;
+        alarms = noAlarms;
+        waiting = noSerial;
+        reply = toldReply m packet room;
+      };
+      after = p .after;
+    }
 
 -- a refused start keeps the module that runs
 abbrev pub begunBy : Answer → Module → Module → Module
@@ -111,6 +155,7 @@ itemsTurn m word.Reset x = steppedTurn (resetOf m (nth x 0))
 itemsTurn m word.Cards x = cardsTurn m
 itemsTurn m word.Help x = plainly said.Help m
 itemsTurn m word.Open x = unreadTurn m why.NoStep
+itemsTurn m word.Poll x = unreadTurn m why.NoStep
 itemsTurn m word.Block x = unreadTurn m why.NoStep
 itemsTurn m word.Other x = unreadTurn m why.NoStep
 
@@ -132,6 +177,20 @@ withText m rest =
     (cond (beginsWith (32 ∷ []) behind) (steppedTurn (openOf m (nth (row .values) 0) (drop 1 behind)))
     (unreadTurn m why.Missing))
 
+-- ---- poll: the room for the reply, and the bytes of the packet, which end the line
+unfoldable pub packetTurn : Module → ℕ → List ℕ → Turn
+packetTurn m room text =
+    let row = rowOf bytes text in
+    cond (ltb (row .bytes) (length text)) (unreadTurn m (packetStopped (length (row .values))))
+    (polledTurn m (packetOf row) room)
+
+abbrev pub behindRoom : Module → List ℕ → Next → Turn
+behindRoom m rest (next.Number room n) = packetTurn m (natAbs room) (drop n rest)
+behindRoom m rest next.Not = unreadTurn m (stoppedBefore (itemsOf word.Poll) rest)
+
+unfoldable pub withPacket : Module → List ℕ → Turn
+withPacket m rest = behindRoom m rest (nextOf kind.Room rest)
+
 -- ---- block: voltages, a bar (a space and 124), currents; at most a and b of them
 unfoldable pub currentsTurn : ℕ → Module → List ℤ → List ℕ → Turn
 currentsTurn b m v text =
@@ -150,6 +209,7 @@ withSamples a b m rest =
 
 abbrev pub wordTurn : ℕ → ℕ → Module → Word → List ℕ → Turn
 wordTurn a b m word.Open rest = withText m rest
+wordTurn a b m word.Poll rest = withPacket m rest
 wordTurn a b m word.Block rest = withSamples a b m rest
 wordTurn a b m word.Other rest = unreadTurn m why.NoStep
 wordTurn a b m word.Start rest = withItems m word.Start rest

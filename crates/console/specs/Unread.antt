@@ -7,7 +7,7 @@ use lib.Dec.{eqb}
 use Rattle.console.specs.declared.words.Kind.{Kind}
 use Rattle.console.specs.declared.words.Kind.the-variants as kind
 use Rattle.console.specs.declared.unread.Why.{Why}
-use Rattle.console.specs.declared.unread.Why.the-variants.{TooLong, NoStep, Missing, NotNumber, NotField, NotRegister, More, NoBar, TooMany, NotSample}
+use Rattle.console.specs.declared.unread.Why.the-variants.{TooLong, NoStep, Missing, NotNumber, NotField, NotRegister, More, NoBar, TooMany, NotSample, NotRoom, NotByte, TooManyBytes}
 
 unfoldable pub whyWords : Why → String
 whyWords TooLong = "longer than 131,071 bytes"
@@ -20,6 +20,9 @@ whyWords More = "more items than the step has"
 whyWords NoBar = "no bar between voltages and currents"
 whyWords TooMany = "more than 8,192 samples on a side"
 whyWords NotSample = "not a 32-bit number"
+whyWords NotRoom = "not a number from 0 to 255"
+whyWords NotByte = "not two hexadecimal digits"
+whyWords TooManyBytes = "more than 4,096 bytes"
 
 -- an item that is not what must stand there
 abbrev pub notA : Kind → Why
@@ -28,6 +31,8 @@ notA kind.Field = NotField
 notA kind.Slot = NotRegister
 notA kind.Register = NotRegister
 notA kind.Sample = NotSample
+notA kind.Room = NotRoom
+notA kind.Byte = NotByte
 
 -- where the step has items of these kinds yet, the line ends too early or has something else
 unfoldable pub stoppedBefore : List Kind → List ℕ → Why
@@ -39,3 +44,7 @@ stoppedBefore (k ∷ ks) (c ∷ cs) = notA k
 unfoldable pub sideStopped : ℕ → ℕ → List ℕ → Why
 sideStopped room count [] = NoBar
 sideStopped room count (c ∷ cs) = cond (eqb count room) TooMany NotSample
+
+-- behind so many bytes of a packet the line has another item
+abbrev pub packetStopped : ℕ → Why
+packetStopped count = cond (eqb count 4096) TooManyBytes NotByte

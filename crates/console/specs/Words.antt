@@ -7,9 +7,9 @@ use lib.ListN.{length}
 use Rattle.serial.specs.Ascii.{ascii}
 use Rattle.serial.specs.Texts.{sameText}
 use Rattle.console.specs.declared.words.Word.{Word}
-use Rattle.console.specs.declared.words.Word.the-variants.{Start, Open, Write, Commit, Drop, Hold, Read, Block, Reset, Cards, Help, Other}
+use Rattle.console.specs.declared.words.Word.the-variants.{Start, Open, Write, Commit, Drop, Hold, Read, Poll, Block, Reset, Cards, Help, Other}
 use Rattle.console.specs.declared.words.Kind.{Kind}
-use Rattle.console.specs.declared.words.Kind.the-variants.{Number, Field, Slot, Register}
+use Rattle.console.specs.declared.words.Kind.the-variants.{Number, Field, Slot, Register, Room}
 
 -- a word's letters
 unfoldable pub lettersOf : Word → List ℕ
@@ -20,6 +20,7 @@ lettersOf Commit = ascii "commit"
 lettersOf Drop = ascii "drop"
 lettersOf Hold = ascii "hold"
 lettersOf Read = ascii "read"
+lettersOf Poll = ascii "poll"
 lettersOf Block = ascii "block"
 lettersOf Reset = ascii "reset"
 lettersOf Cards = ascii "cards"
@@ -27,7 +28,7 @@ lettersOf Help = ascii "help"
 lettersOf Other = []
 
 abbrev pub words : List Word
-words = Start ∷ Open ∷ Write ∷ Commit ∷ Drop ∷ Hold ∷ Read ∷ Block ∷ Reset ∷ Cards ∷ Help ∷ []
+words = Start ∷ Open ∷ Write ∷ Commit ∷ Drop ∷ Hold ∷ Read ∷ Poll ∷ Block ∷ Reset ∷ Cards ∷ Help ∷ []
 
 -- the one of some words that an item is
 abbrev pub firstOf : List Word → List ℕ → Word
@@ -37,7 +38,7 @@ firstOf (w ∷ ws) item = cond (sameText (lettersOf w) item) w (firstOf ws item)
 unfoldable pub wordOf : List ℕ → Word
 wordOf item = firstOf words item
 
--- what stands behind it, item by item; an open has its text besides, and a block its samples
+-- what stands behind it, item by item; an open has its text besides, a poll its bytes, and a block its samples
 unfoldable pub itemsOf : Word → List Kind
 itemsOf Start = Number ∷ Number ∷ Slot ∷ Slot ∷ Slot ∷ Slot ∷ Slot ∷ Slot ∷ Number ∷ Number ∷ Number ∷ Number ∷ []
 itemsOf Open = Number ∷ []
@@ -46,6 +47,7 @@ itemsOf Commit = Number ∷ []
 itemsOf Drop = Number ∷ []
 itemsOf Hold = Number ∷ []
 itemsOf Read = Number ∷ Register ∷ []
+itemsOf Poll = Room ∷ []
 itemsOf Block = []
 itemsOf Reset = Number ∷ []
 itemsOf Cards = []

@@ -1,18 +1,20 @@
 // The lines that answer a turn.
 ghost use mathlib.Core.Path.{_≡_};
 ghost use mathlib.Core.List.{_++_};
-ghost use Prim.Native.Nat.{_+_, _≤_};
+ghost use Prim.Native.Nat.{_+_, _≤_, min};
 ghost use lib.ListN.{length, take};
 ghost use Rattle.serial.specs.Ascii.{ascii};
 ghost use Rattle.console.specs.Unread.{whyWords};
 ghost use Rattle.console.specs.Inside.{placeOf};
-ghost use Rattle.console.specs.Answers.{unreadLine, refusedLine, valueLine, clipsText, alarmText, alarmsText, heldLine};
+ghost use Rattle.console.specs.Answers.{unreadLine, refusedLine, valueLine, clipsText, alarmText, alarmsText, heldLine, replyLine};
 ghost use Rattle.console.specs.Answers.{cardsLine, helpText, toldText};
 use super::output::put;
+use super::output::put_bytes;
 use super::output::put_card;
 use super::output::put_digits;
 use super::output::put_number;
 use super::output::put_words;
+use super::turns::Reply;
 use super::turns::Said;
 use super::turns::Told;
 use super::unread::Why;
@@ -20,7 +22,7 @@ use alarm::Alarms;
 use sample::Clips;
 use serial::Serial;
 
-const HELP: [u8; 1222] = *b"\
+const HELP: [u8; 1366] = *b"\
     # start N B SLOT SLOT SLOT SLOT SLOT SLOT [W [VSAG [VSURGE [STICKY]]]]: N samples an interval, energy buckets of B, six registers to track or 0\n\
     #   W samples in half a cycle, sag and surge levels or 0 (off), and the alarms that stay set: a mask as of reset; left out: 1 0 0 0\n\
     # open PORT SERIAL: begins a card; ports are 0 and 1\n\
@@ -32,13 +34,14 @@ const HELP: [u8; 1222] = *b"\
     # hold PORT: keeps the last closed interval; answers its number, its card's serial, \
     how many of its voltages and currents were clipped, and both alarms as they are now\n\
     # read PORT REGISTER: of what is held; a name (VA_RMS, WATT_A, PA_POS_CNT, MIN1 ..) or a byte address\n\
+    # poll ROOM BYTES: a packet of the serial line, its bytes as two hexadecimal digits each; answers the reply's bytes; ROOM bytes are lent for it\n\
     # cards: the serials of the card in force and of the one that waits\n\
     # help: these lines\n\
     # A terminal cuts a pasted line at 4,095 bytes: send long blocks from a file, or as several blocks.\n\
     # Numbers are decimal, or hexadecimal behind 0x. One space parts two items. A line that begins with # is a comment.\n";
 
 // A row of 48 bytes for each reason why a line is not read, spaces behind its words.
-const WHYS: [u8; 480] = *b"\
+const WHYS: [u8; 624] = *b"\
     longer than 131,071 bytes                       \
     no such step                                    \
     an item missing                                 \
@@ -49,49 +52,34 @@ const WHYS: [u8; 480] = *b"\
     no bar between voltages and currents            \
     more than 8,192 samples on a side               \
     not a 32-bit number                             \
+    not a number from 0 to 255                      \
+    not two hexadecimal digits                      \
+    more than 4,096 bytes                           \
 ";
 
 // Where a text stands among the rows, and where it ends.
 pub struct Place {
     pub from: usize,
-    pub end: usize,
+    pub to: usize,
 }
 
 fn place_of(why: Why) -> Place
     ensures { λ r. ⌜ r ≡ placeOf why ⌝ }
 {
     match why {
-        Why::TooLong => Place { from: 0, end: 25 },
-        Why::NoStep => Place { from: 48, end: 60 },
-        Why::Missing => Place { from: 96, end: 111 },
-        Why::NotNumber => Place {
-            from: 144,
-            end: 163,
-        },
-        Why::NotField => Place {
-            from: 192,
-            end: 234,
-        },
-        Why::NotRegister => Place {
-            from: 240,
-            end: 285,
-        },
-        Why::More => Place {
-            from: 288,
-            end: 316,
-        },
-        Why::NoBar => Place {
-            from: 336,
-            end: 372,
-        },
-        Why::TooMany => Place {
-            from: 384,
-            end: 417,
-        },
-        Why::NotSample => Place {
-            from: 432,
-            end: 451,
-        },
+        Why::TooLong => Place { from: 0, to: 25 },
+        Why::NoStep => Place { from: 48, to: 60 },
+        Why::Missing => Place { from: 96, to: 111 },
+        Why::NotNumber => Place { from: 144, to: 163 },
+        Why::NotField => Place { from: 192, to: 234 },
+        Why::NotRegister => Place { from: 240, to: 285 },
+        Why::More => Place { from: 288, to: 316 },
+        Why::NoBar => Place { from: 336, to: 372 },
+        Why::TooMany => Place { from: 384, to: 417 },
+        Why::NotSample => Place { from: 432, to: 451 },
+        Why::NotRoom => Place { from: 480, to: 506 },
+        Why::NotByte => Place { from: 528, to: 554 },
+        Why::TooManyBytes => Place { from: 576, to: 597 },
     }
 }
 
@@ -103,8 +91,8 @@ fn put_why(out: &mut [u8], used: usize, why: Why) -> usize
     let rows = WHYS;
     let p = place_of(why);
     let from = p.from;
-    let end = p.end;
-    put(out, used, &rows[from..end])
+    let to = p.to;
+    put(out, used, &rows[from..to])
 }
 
 fn unread_line(out: &mut [u8], used: usize, why: Why) -> usize
@@ -190,6 +178,25 @@ fn held_line(
     put(out, f, b"\n")
 }
 
+// As many bytes as a reply says that it has, but no more than there are.
+fn count_of(length: usize) -> usize
+    ensures { λ r. ⌜ r ≡ min length 255 ⌝ }
+{
+    if length < 255 { length } else { 255 }
+}
+
+// The bytes of a reply.
+fn reply_line(out: &mut [u8], used: usize, reply: Reply) -> usize
+    requires { ⌜ used + 768 ≤ length (now out) ⌝ }
+    ensures { λ r. ⌜ (take r (now (out .exit)) ≡ take used (now (out .entry)) ++ replyLine reply) × (r ≤ used + 768) ⌝ }
+{
+    let bytes = reply.bytes;
+    let n = count_of(reply.length);
+    let a = put(out, used, b"ok");
+    let b = put_bytes(out, a, &bytes[..n]);
+    put(out, b, b"\n")
+}
+
 // The serials of the card in force and of the one that waits.
 fn cards_line(out: &mut [u8], used: usize, force: Serial, waiting: Serial) -> usize
     requires { ⌜ used + 64 ≤ length (now out) ⌝ }
@@ -203,8 +210,8 @@ fn cards_line(out: &mut [u8], used: usize, force: Serial, waiting: Serial) -> us
 }
 
 fn help_lines(out: &mut [u8], used: usize) -> usize
-    requires { ⌜ used + 1280 ≤ length (now out) ⌝ }
-    ensures { λ r. ⌜ (take r (now (out .exit)) ≡ take used (now (out .entry)) ++ helpText) × (r ≤ used + 1280) ⌝ }
+    requires { ⌜ used + 1408 ≤ length (now out) ⌝ }
+    ensures { λ r. ⌜ (take r (now (out .exit)) ≡ take used (now (out .entry)) ++ helpText) × (r ≤ used + 1408) ⌝ }
 {
     let help = HELP;
     put(out, used, &help)
@@ -212,20 +219,22 @@ fn help_lines(out: &mut [u8], used: usize) -> usize
 
 // What is said, behind the bytes that are used.
 pub(super) fn put_answer(out: &mut [u8], used: usize, t: Told) -> usize
-    requires { ⌜ used + 1280 ≤ length (now out) ⌝ }
-    ensures { λ r. ⌜ (take r (now (out .exit)) ≡ take used (now (out .entry)) ++ toldText t) × (r ≤ used + 1280) ⌝ }
+    requires { ⌜ used + 1408 ≤ length (now out) ⌝ }
+    ensures { λ r. ⌜ (take r (now (out .exit)) ≡ take used (now (out .entry)) ++ toldText t) × (r ≤ used + 1408) ⌝ }
 {
     let said = t.said;
     let serial = t.serial;
     let clips = t.clips;
     let alarms = t.alarms;
     let waiting = t.waiting;
+    let reply = t.reply;
     match said {
         Said::Unread(why) => unread_line(out, used, why),
         Said::Refused(n) => refused_line(out, used, n),
         Said::Done => put(out, used, b"ok\n"),
         Said::Value(x) => value_line(out, used, x),
         Said::Held => held_line(out, used, t.number, serial, clips, alarms),
+        Said::Polled => reply_line(out, used, reply),
         Said::Cards => cards_line(out, used, serial, waiting),
         Said::Help => help_lines(out, used),
     }

@@ -81,7 +81,7 @@ fn is_silent(line: &[u8]) -> bool
 fn end_line(mut s: Session, line: &[u8], v: &mut [i32], i: &mut [i32], out: &mut [u8]) -> Session
     requires { ⌜ Ready s (now line) (now out) (now v) (now i) 1 ⌝ }
     ensures { λ r. ⌜ talkOf r (now (line .entry)) (now (out .exit)) ≡ ended (talkOf s (now (line .entry)) (now (out .entry))) ⌝ }
-    ensures { λ r. ⌜ (r .kept ≡ 0) × (r .used ≤ s .used + 1280) ⌝ }
+    ensures { λ r. ⌜ (r .kept ≡ 0) × (r .used ≤ s .used + 1408) ⌝ }
 {
     let kept = s.kept;
     s.kept = 0;

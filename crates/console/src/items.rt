@@ -1,10 +1,11 @@
-// The items of a step: numbers, names and samples in a row, each behind one space.
+// The items of a step: numbers, names, samples and bytes in a row, each behind one space.
 ghost use mathlib.Core.Path.{_≡_};
 ghost use Prim.Native.Nat.{_≤_};
 ghost use lib.ListN.{length};
-ghost use Rattle.console.specs.Items.{ownNumber, byteAddress, sampled, worthIn, nextOf, rowOf, samples, Filled};
+ghost use Rattle.console.specs.Items.{ownNumber, byteAddress, between, worthIn, nextOf, rowOf, samples, bytes, Filled, FilledBytes};
 ghost use Rattle.console.specs.Words.{itemsOf};
 use super::numerals::Number;
+use super::numerals::pair;
 use super::numerals::value;
 use super::texts::begins;
 use super::texts::length_to;
@@ -51,13 +52,13 @@ fn byte_address(name: Named, item: &[u8]) -> Number
     }
 }
 
-// A number that is a sample: within the range of i32.
-fn sample(x: Number) -> Number
-    ensures { λ r. ⌜ r ≡ sampled x ⌝ }
+// A number from one to another.
+fn in_range(low: i64, high: i64, x: Number) -> Number
+    ensures { λ r. ⌜ r ≡ between low high x ⌝ }
 {
     match x {
         Number::Is(n) => {
-            if (-2147483648 <= n) & (n <= 2147483647) {
+            if (low <= n) & (n <= high) {
                 Number::Is(n)
             } else {
                 Number::Not
@@ -76,7 +77,9 @@ pub(super) fn worth_in(k: Kind, item: &[u8]) -> Number
         Kind::Field => own_number(names::field(item), item),
         Kind::Slot => own_number(names::register(item), item),
         Kind::Register => byte_address(names::register(item), item),
-        Kind::Sample => sample(value(item)),
+        Kind::Sample => in_range(-2147483648, 2147483647, value(item)),
+        Kind::Room => in_range(0, 255, value(item)),
+        Kind::Byte => pair(item),
     }
 }
 
@@ -129,6 +132,28 @@ pub(super) fn take_samples(text: &[u8], into: &mut [i32]) -> Row
         match next_item(Kind::Sample, &text[at..]) {
             Next::Number(x, n) => {
                 into[count] = x as i32;
+                count += 1;
+                at += n;
+            }
+            Next::Not => {
+                return Row { count, taken: at };
+            }
+        }
+    }
+    Row { count, taken: at }
+}
+
+// Takes the bytes of a packet into a lent buffer, until another thing comes or the buffer is full.
+pub(super) fn take_bytes(text: &[u8], into: &mut [u8]) -> Row
+    requires { ⌜ length (now into) ≡ 4096 ⌝ }
+    ensures { λ r. ⌜ FilledBytes r (now (into .entry)) (now (into .exit)) (rowOf bytes (now (text .entry))) ⌝ }
+{
+    let mut count = 0;
+    let mut at = 0;
+    while count < into.len() {
+        match next_item(Kind::Byte, &text[at..]) {
+            Next::Number(x, n) => {
+                into[count] = x as u8;
                 count += 1;
                 at += n;
             }

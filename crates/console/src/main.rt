@@ -14,6 +14,6 @@ fn main() {
     let mut line = [0u8; 131073];
     let mut v = [0i32; 8192];
     let mut i = [0i32; 8192];
-    let mut out = [0u8; 327680];
+    let mut out = [0u8; 360448];
     input::run(&mut chunk, &mut line, &mut v, &mut i, &mut out);
 }

@@ -1,7 +1,7 @@
-// A number as a line has it: decimal with an optional `-`, or `0x` and hexadecimal digits, within the range of i64.
+// A number as a line has it: decimal with an optional `-`, or `0x` and hexadecimal digits, within the range of i64; and a byte.
 ghost use mathlib.Core.Path.{_≡_};
 ghost use Prim.Native.Nat.{_≤_};
-ghost use Rattle.console.specs.Numbers.{digitOf, digitsOf, positive, negative, valueOf};
+ghost use Rattle.console.specs.Numbers.{digitOf, digitsOf, positive, negative, valueOf, pairOf};
 use super::texts::begins;
 
 // What a row of digits is worth, up to 2^63.
@@ -113,4 +113,14 @@ pub(super) fn value(text: &[u8]) -> Number
         return minus(digits(&text[1..], 10));
     }
     plus(digits(text, 10))
+}
+
+// What exactly two hexadecimal digits are worth.
+pub(super) fn pair(text: &[u8]) -> Number
+    ensures { λ r. ⌜ r ≡ pairOf (now (text .entry)) ⌝ }
+{
+    if text.len() == 2 {
+        return plus(digits(text, 16));
+    }
+    Number::Not
 }

@@ -1,11 +1,11 @@
 // Texts put behind the answers that are gathered in a buffer; each function gives the number of bytes that are used then.
 ghost use mathlib.Core.Path.{_≡_};
 ghost use mathlib.Core.List.{_++_};
-ghost use Prim.Native.Nat.{_+_, _≤_};
+ghost use Prim.Native.Nat.{_+_, _*_, _≤_, _<_};
 ghost use lib.ListN.{length, take};
 ghost use Rattle.decimal.specs.Decimals.{signedDecimal};
 ghost use Rattle.refusal.specs.Words.{wordsOf};
-ghost use Rattle.console.specs.Answers.{digitsText, cardText};
+ghost use Rattle.console.specs.Answers.{digitsText, cardText, hexDigit, bytesText};
 use serial::Serial;
 
 pub(super) fn put(out: &mut [u8], used: usize, text: &[u8]) -> usize
@@ -57,4 +57,28 @@ pub(super) fn put_card(out: &mut [u8], used: usize, s: Serial) -> usize
         return put(out, used, b"-");
     }
     put_digits(out, used, s)
+}
+
+fn hex_digit(d: u8) -> u8
+    requires { ⌜ d < 16 ⌝ }
+    ensures { λ r. ⌜ r ≡ hexDigit d ⌝ }
+{
+    if d < 10 { d + 48 } else { d + 55 }
+}
+
+// Each byte as a space and two hexadecimal digits.
+pub(super) fn put_bytes(out: &mut [u8], used: usize, bytes: &[u8]) -> usize
+    requires { ⌜ used + 3 * length (now bytes) ≤ length (now out) ⌝ }
+    ensures { λ r. ⌜ take r (now (out .exit)) ≡ take used (now (out .entry)) ++ bytesText (now (bytes .entry)) ⌝ }
+    ensures { λ r. ⌜ r ≡ used + 3 * length (now (bytes .entry)) ⌝ }
+{
+    let mut at = used;
+    let mut k = 0;
+    while k < bytes.len() {
+        let b = bytes[k];
+        let text = [b' ', hex_digit(b / 16), hex_digit(b % 16)];
+        at = put(out, at, &text);
+        k += 1;
+    }
+    at
 }

@@ -1,19 +1,25 @@
 // A line as a step of the module, and what it comes to.
 ghost use mathlib.Core.Path.{_≡_};
-ghost use Prim.Native.Nat.{_<_};
+ghost use Prim.Native.Nat.{_≤_};
 ghost use lib.ListN.{length};
 ghost use Rattle.address.specs.Addresses.{byteAddr};
 ghost use Rattle.aberzhan.specs.Module.{holdOf, readOf};
 ghost use Rattle.console.specs.Inside.{slotsOf};
-ghost use Rattle.console.specs.Turns.{barely, plainly, unreadTurn, saidOf, steppedTurn, heldSaid, heldTurn, readSaid, readTurn, cardsTurn};
+ghost use Rattle.console.specs.Turns.{noReply, barely, plainly, unreadTurn, saidOf, steppedTurn, heldSaid, heldTurn, readSaid, readTurn, cardsTurn};
+ghost use Rattle.console.specs.Turns.{polledSaid, polledTurn, packetTurn, withPacket};
 ghost use Rattle.console.specs.Turns.{startedTurn, askedOf, startTurn, itemsTurn, withItems, withText, currentsTurn, withSamples, turnOf};
+use super::items::Next;
+use super::items::next_item;
+use super::items::take_bytes;
 use super::items::take_items;
 use super::items::take_samples;
 use super::texts::begins;
 use super::texts::length_to;
 use super::unread::Why;
+use super::unread::packet_stopped;
 use super::unread::side_stopped;
 use super::unread::stopped;
+use super::words::Kind;
 use super::words::Word;
 use super::words::are_enough;
 use super::words::first_word;
@@ -38,12 +44,19 @@ pub enum Said {
     Done,
     Value(i64),
     Held,
+    Polled,
     Cards,
     Help,
 }
 
-// What is said. A hold says an interval's number, its serial, its counts of clipped samples and both alarms, `cards` the serials in force and
-// waiting.
+// The bytes that answer a packet: so many, at the front.
+pub struct Reply {
+    pub bytes: [u8; 255],
+    pub length: usize,
+}
+
+// What is said. A hold says an interval's number, its serial, its counts of clipped samples and both alarms, a poll its reply, `cards` the
+// serials in force and waiting.
 pub struct Told {
     pub said: Said,
     pub number: u32,
@@ -51,6 +64,7 @@ pub struct Told {
     pub clips: Clips,
     pub alarms: Alarms,
     pub waiting: Serial,
+    pub reply: Reply,
 }
 
 // What is said, and the module after the step.
@@ -59,11 +73,19 @@ pub struct Turn {
     pub after: Module,
 }
 
-// Without a number, serials, counts and alarms.
+fn no_reply() -> Reply
+    ensures { λ r. ⌜ r ≡ noReply ⌝ }
+{
+    let bytes = [0u8; 255];
+    Reply { bytes, length: 0 }
+}
+
+// Without a number, serials, counts, alarms and a reply.
 fn bare(said: Said) -> Told
     ensures { λ r. ⌜ r ≡ barely said ⌝ }
 {
     let none = Serial::none();
+    let reply = no_reply();
     Told {
         said,
         number: 0,
@@ -74,6 +96,7 @@ fn bare(said: Said) -> Told
             surge: false,
         },
         waiting: none,
+        reply,
     }
 }
 
@@ -125,16 +148,11 @@ fn held(m: Module, port: i64) -> Turn
     let clips = h.clips;
     let alarms = h.alarms;
     let after = h.after;
-    let said = said_of_hold(answer);
-    let none = Serial::none();
-    let told = Told {
-        said,
-        number: h.number,
-        serial,
-        clips,
-        alarms,
-        waiting: none,
-    };
+    let mut told = bare(said_of_hold(answer));
+    told.number = h.number;
+    told.serial = serial;
+    told.clips = clips;
+    told.alarms = alarms;
     Turn { told, after }
 }
 
@@ -166,6 +184,34 @@ fn shown(m: Module) -> Turn
     told.serial = force;
     told.waiting = waiting;
     Turn { told, after: m }
+}
+
+fn said_of_poll(a: Answer) -> Said
+    ensures { λ r. ⌜ r ≡ polledSaid a ⌝ }
+{
+    match a {
+        Answer::Done => Said::Polled,
+        Answer::Refused(n) => Said::Refused(n),
+    }
+}
+
+// A packet, with room for so many bytes of a reply.
+fn polled(m: Module, packet: &[u8], room: usize) -> Turn
+    requires { ⌜ room ≤ 255 ⌝ }
+    ensures { λ r. ⌜ r ≡ polledTurn m (now (packet .entry)) room ⌝ }
+{
+    let none = no_reply();
+    let mut bytes = none.bytes;
+    let p = m.poll(packet, &mut bytes[..room]);
+    let answer = p.answer;
+    let after = p.after;
+    let mut told = bare(said_of_poll(answer));
+    let reply = Reply {
+        bytes,
+        length: p.length,
+    };
+    told.reply = reply;
+    Turn { told, after }
 }
 
 // A refused start keeps the module that runs.
@@ -260,6 +306,31 @@ fn with_text(m: Module, rest: &[u8]) -> Turn
     unread(m, Why::Missing)
 }
 
+// The packet, behind the room for its reply.
+fn with_bytes(m: Module, room: usize, text: &[u8]) -> Turn
+    requires { ⌜ room ≤ 255 ⌝ }
+    ensures { λ r. ⌜ r ≡ packetTurn m room (now (text .entry)) ⌝ }
+{
+    let mut packet = [0u8; 4096];
+    let n = take_bytes(text, &mut packet);
+    let at = n.taken;
+    let count = n.count;
+    if at < text.len() {
+        return unread(m, packet_stopped(count));
+    }
+    polled(m, &packet[..count], room)
+}
+
+// How many bytes are lent for the reply, and the packet.
+fn with_packet(m: Module, rest: &[u8]) -> Turn
+    ensures { λ r. ⌜ r ≡ withPacket m (now (rest .entry)) ⌝ }
+{
+    match next_item(Kind::Room, rest) {
+        Next::Number(room, n) => with_bytes(m, room as usize, &rest[n..]),
+        Next::Not => unread(m, stopped(Word::Poll, 0, rest)),
+    }
+}
+
 // The currents, behind the bar.
 fn with_currents(m: Module, v: &[i32], text: &[u8], i: &mut [i32]) -> Turn
     ensures { λ r. ⌜ r ≡ currentsTurn (length (now (i .entry))) m (now (v .entry)) (now (text .entry)) ⌝ }
@@ -299,6 +370,7 @@ pub(super) fn take_line(m: Module, line: &[u8], v: &mut [i32], i: &mut [i32]) ->
     let rest = &line[n..];
     match w {
         Word::Open => with_text(m, rest),
+        Word::Poll => with_packet(m, rest),
         Word::Block => with_samples(m, rest, v, i),
         Word::Other => unread(m, Why::NoStep),
         _ => with_items(m, w, rest),

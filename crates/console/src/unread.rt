@@ -1,7 +1,7 @@
 // Why a line is not read.
 ghost use mathlib.Core.Path.{_≡_};
 ghost use lib.ListN.{drop};
-ghost use Rattle.console.specs.Unread.{notA, stoppedBefore, sideStopped};
+ghost use Rattle.console.specs.Unread.{notA, stoppedBefore, sideStopped, packetStopped};
 ghost use Rattle.console.specs.Words.{itemsOf};
 use super::words::Kind;
 use super::words::Word;
@@ -19,6 +19,9 @@ pub enum Why {
     NoBar,
     TooMany,
     NotSample,
+    NotRoom,
+    NotByte,
+    TooManyBytes,
 }
 
 // An item that is not what must stand there.
@@ -31,6 +34,8 @@ fn not_a(k: Kind) -> Why
         Kind::Slot => Why::NotRegister,
         Kind::Register => Why::NotRegister,
         Kind::Sample => Why::NotSample,
+        Kind::Room => Why::NotRoom,
+        Kind::Byte => Why::NotByte,
     }
 }
 
@@ -58,5 +63,16 @@ pub(super) fn side_stopped(room: usize, count: usize, behind: &[u8]) -> Why
         Why::TooMany
     } else {
         Why::NotSample
+    }
+}
+
+// Behind `count` bytes of a packet the line has another item.
+pub(super) fn packet_stopped(count: usize) -> Why
+    ensures { λ r. ⌜ r ≡ packetStopped count ⌝ }
+{
+    if count == 4096 {
+        Why::TooManyBytes
+    } else {
+        Why::NotByte
     }
 }

@@ -1,9 +1,9 @@
 // The word that a line begins with, and the items that its step has.
 ghost use mathlib.Core.Path.{_≡_};
 ghost use Prim.Native.Nat.{_≤_, _<_};
-ghost use lib.ListN.{length, getD};
+ghost use lib.ListN.{length, drop, getD};
 ghost use Rattle.console.specs.declared.words.Kind.the-variants as «kind»;
-ghost use Rattle.console.specs.Words.{wordOf, itemsOf, enough};
+ghost use Rattle.console.specs.Words.{words, firstOf, wordOf, itemsOf, enough};
 use serial::same_text;
 
 pub enum Word {
@@ -14,6 +14,7 @@ pub enum Word {
     Drop,
     Hold,
     Read,
+    Poll,
     Block,
     Reset,
     Cards,
@@ -21,13 +22,15 @@ pub enum Word {
     Other,
 }
 
-// What must stand at an item's place: a number; one or a name beside it; a sample.
+// What must stand at an item's place: a number; one or a name beside it; a sample; how many bytes are lent; a byte.
 pub enum Kind {
     Number,
     Field,
     Slot,
     Register,
     Sample,
+    Room,
+    Byte,
 }
 
 pub(super) fn first_word(item: &[u8]) -> Word
@@ -54,6 +57,16 @@ pub(super) fn first_word(item: &[u8]) -> Word
     if same_text(b"read", item) {
         return Word::Read;
     }
+    if same_text(b"poll", item) {
+        return Word::Poll;
+    }
+    later_word(item)
+}
+
+// One of the words that are listed behind it.
+fn later_word(item: &[u8]) -> Word
+    ensures { λ r. ⌜ r ≡ firstOf (drop 8 words) (now (item .entry)) ⌝ }
+{
     if same_text(b"block", item) {
         return Word::Block;
     }
@@ -69,7 +82,7 @@ pub(super) fn first_word(item: &[u8]) -> Word
     Word::Other
 }
 
-// How many items follow it, but for the text of an open and the samples of a block.
+// How many items follow it, but for the text of an open, the bytes of a poll and the samples of a block.
 pub(super) fn arity(w: Word) -> usize
     ensures { λ r. ⌜ (r ≡ length (itemsOf w)) × (r ≤ 12) ⌝ }
 {
@@ -81,6 +94,7 @@ pub(super) fn arity(w: Word) -> usize
         Word::Drop => 1,
         Word::Hold => 1,
         Word::Read => 2,
+        Word::Poll => 1,
         Word::Block => 0,
         Word::Reset => 1,
         Word::Cards => 0,
@@ -111,14 +125,7 @@ pub(super) fn kind_at(w: Word, k: usize) -> Kind
         }
         Word::Write => { if k == 1 { Kind::Field } else { Kind::Number } }
         Word::Read => { if k == 1 { Kind::Register } else { Kind::Number } }
-        Word::Open => Kind::Number,
-        Word::Commit => Kind::Number,
-        Word::Drop => Kind::Number,
-        Word::Hold => Kind::Number,
-        Word::Block => Kind::Number,
-        Word::Reset => Kind::Number,
-        Word::Cards => Kind::Number,
-        Word::Help => Kind::Number,
-        Word::Other => Kind::Number,
+        Word::Poll => Kind::Room,
+        _ => Kind::Number,
     }
 }

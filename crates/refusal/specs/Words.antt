@@ -31,7 +31,7 @@ table =
     ∷ "no card in force and none waits"
     ∷ "the serial is in that section already"
     ∷ "the section is full"
-    ∷ "no room for the longer book"
+    ∷ "the buffer is too short"
     ∷ []
 
 -- the words of a number; any number but those of the refusals has none

@@ -28,7 +28,7 @@ const ROWS: [u8; 880] = *b"\
     no card in force and none waits         \
     the serial is in that section already   \
     the section is full                     \
-    no room for the longer book             \
+    the buffer is too short                 \
 ";
 
 // How many bytes of each row are words.
@@ -54,7 +54,7 @@ const LENGTHS: [usize; 22] = [
     31,
     37,
     19,
-    27,
+    23,
 ];
 
 // How many bytes the words of a number have.

@@ -25,7 +25,7 @@ run-requires : tie.Need-run-requires
 run-requires c κs = record {
   chunk-room = length-replicate {A = ℕ} 256 0;
   line-room = length-replicate {A = ℕ} 131073 0;
-  out-room = length-replicate {A = ℕ} 327680 0;
+  out-room = length-replicate {A = ℕ} 360448 0;
   v-room = length-replicate {A = ℤ} 8192 (pos 0);
   i-room = length-replicate {A = ℤ} 8192 (pos 0);
 }

@@ -34,6 +34,15 @@ enum-told-9 c = search needs
 enum-told-10 : tie.Need-enum-told-10
 enum-told-10 c = search needs
 
+enum-told-11 : tie.Need-enum-told-11
+enum-told-11 c = search needs
+
+enum-told-12 : tie.Need-enum-told-12
+enum-told-12 c = search needs
+
+enum-told-13 : tie.Need-enum-told-13
+enum-told-13 c = search needs
+
 returns : tie.Need-returns
 unfolding placeOf
 returns c = simp (c .enum-told .given .1)
@@ -74,6 +83,18 @@ returns-10 : tie.Need-returns-10
 unfolding placeOf
 returns-10 c = simp (c .enum-told10 .given .1)
 
+returns-11 : tie.Need-returns-11
+unfolding placeOf
+returns-11 c = simp (c .enum-told11 .given .1)
+
+returns-12 : tie.Need-returns-12
+unfolding placeOf
+returns-12 c = simp (c .enum-told12 .given .1)
+
+returns-13 : tie.Need-returns-13
+unfolding placeOf
+returns-13 c = simp (c .enum-told13 .given .1)
+
 pub place-of-spec : {M : Type 1} → statement M
 place-of-spec =
     tie.close
@@ -88,6 +109,9 @@ place-of-spec =
     enum-told-8
     enum-told-9
     enum-told-10
+    enum-told-11
+    enum-told-12
+    enum-told-13
     returns
     returns-2
     returns-3
@@ -97,4 +121,7 @@ place-of-spec =
     returns-7
     returns-8
     returns-9
-    returns-10)
+    returns-10
+    returns-11
+    returns-12
+    returns-13)

@@ -48,11 +48,17 @@ held-line-requires c κs = search needs
 enum-told-3 : tie.Need-enum-told-3
 enum-told-3 c = search needs
 
-cards-line-requires : tie.Need-cards-line-requires
-cards-line-requires c κs = search needs
+reply-line-requires : tie.Need-reply-line-requires
+reply-line-requires c κs = search needs
 
 enum-told-4 : tie.Need-enum-told-4
 enum-told-4 c = search needs
+
+cards-line-requires : tie.Need-cards-line-requires
+cards-line-requires c κs = search needs
+
+enum-told-5 : tie.Need-enum-told-5
+enum-told-5 c = search needs
 
 help-lines-requires : tie.Need-help-lines-requires
 help-lines-requires c κs = search needs
@@ -97,14 +103,21 @@ same-length-6 c = search needs
 
 returns-6 : tie.Need-returns-6
 unfolding toldText saidText
-returns-6 c = (rw (c .before .before .before .before .enum-told3 .given .1) (c .before .before .cards-line .ensures .0), omega (arith, c .before .before .cards-line .ensures .1))
+returns-6 c = (rw (c .before .before .before .before .enum-told3 .given .1) (c .before .before .reply-line .ensures .0), omega (arith, c .before .before .reply-line .ensures .1))
 
 same-length-7 : tie.Need-same-length-7
 same-length-7 c = search needs
 
 returns-7 : tie.Need-returns-7
 unfolding toldText saidText
-returns-7 c = (rw (c .before .before .before .before .enum-told4 .given .1) (c .before .before .help-lines .ensures .0), omega (arith, c .before .before .help-lines .ensures .1))
+returns-7 c = (rw (c .before .before .before .before .enum-told4 .given .1) (c .before .before .cards-line .ensures .0), omega (arith, c .before .before .cards-line .ensures .1))
+
+same-length-8 : tie.Need-same-length-8
+same-length-8 c = search needs
+
+returns-8 : tie.Need-returns-8
+unfolding toldText saidText
+returns-8 c = (rw (c .before .before .before .before .enum-told5 .given .1) (c .before .before .help-lines .ensures .0), omega (arith, c .before .before .help-lines .ensures .1))
 
 pub put-answer-spec : {M : Type 1} → statement M
 put-answer-spec =
@@ -122,8 +135,10 @@ put-answer-spec =
     enum-told-2
     held-line-requires
     enum-told-3
-    cards-line-requires
+    reply-line-requires
     enum-told-4
+    cards-line-requires
+    enum-told-5
     help-lines-requires
     same-length
     returns
@@ -138,4 +153,6 @@ put-answer-spec =
     same-length-6
     returns-6
     same-length-7
-    returns-7)
+    returns-7
+    same-length-8
+    returns-8)

@@ -13,14 +13,14 @@ use borrow.Author.Needs.{needs}
 use Rattle.console.proofs.answers.put_why.Statement.{statement}
 use Rattle.console.proofs.answers.put_why.Tie as tie
 
-begins : (c : tie.After-place-of) → c .place-of .result .from ≤ c .place-of .result .end
+begins : (c : tie.After-place-of) → c .place-of .result .from ≤ c .place-of .result .to
 begins c = rw (c .place-of .ensures) (within (c .before .before .args .why) .begins)
 
-ends : (c : tie.After-place-of) → c .place-of .result .end ≤ 480
+ends : (c : tie.After-place-of) → c .place-of .result .to ≤ 624
 ends c = rw (c .place-of .ensures) (within (c .before .before .args .why) .ends)
 
-words : (c : tie.After-place-of) → take (c .place-of .result .end - c .place-of .result .from) (drop (c .place-of .result .from) rows) ≡ ascii (whyWords (c .before .before .args .why))
-words c = ap (λ (p : Place). take (p .end - p .from) (drop (p .from) rows)) (c .place-of .ensures) ∙ words-at (c .before .before .args .why)
+words : (c : tie.After-place-of) → take (c .place-of .result .to - c .place-of .result .from) (drop (c .place-of .result .from) rows) ≡ ascii (whyWords (c .before .before .args .why))
+words c = ap (λ (p : Place). take (p .to - p .from) (drop (p .from) rows)) (c .place-of .ensures) ∙ words-at (c .before .before .args .why)
 
 place-of-requires : tie.Need-place-of-requires
 place-of-requires c κs = search needs

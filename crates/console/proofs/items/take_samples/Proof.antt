@@ -11,7 +11,7 @@ use Rattle.console.specs.declared.words.Kind.{Kind}
 use Rattle.console.specs.declared.words.Kind.the-variants as kind
 use Rattle.console.specs.Items.{nextOf, samples}
 use Rattle.console.proofs.TextLaws.{rest-of}
-use Rattle.console.proofs.ItemLaws.{next-within, sample-fits, samples-long, all-samples, Going, begun, further, ended, full, another}
+use Rattle.console.proofs.ItemLaws.{next-within, sample-fits, several-long, all-alike, Going, begun, further, ended, full, another}
 use borrow.Author.Needs.{needs}
 use Rattle.console.proofs.items.take_samples.Statement.{statement}
 use Rattle.console.proofs.items.take_samples.Tie as tie
@@ -23,11 +23,11 @@ abbrev μ-loop : tie.MeasureT-loop
 μ-loop text into₀ count₀ at₀ into count at = length into - count
 
 below : (c : tie.In-loop Inv-loop μ-loop) → c .before .loop .count < length (samples (length (c .before .before .before .args .into .now)))
-below c = omega (arith, c .loop-test .taken, c .before .loop .inv .1, samples-long (length (c .before .before .before .args .into .now)))
+below c = omega (arith, c .loop-test .taken, c .before .loop .inv .1, several-long kind.Sample (length (c .before .before .before .args .into .now)))
 
 sampled : (c : tie.At-loop Inv-loop μ-loop) →
     nextOf (getD (samples (length (c .before .before .args .into .now))) (c .loop .count) kind.Sample) (drop (c .loop .at) (c .before .before .args .text .now)) ≡ nextOf kind.Sample (drop (c .loop .at) (c .before .before .args .text .now))
-sampled c = ap (λ (k : Kind). nextOf k (drop (c .loop .at) (c .before .before .args .text .now))) (all-samples (length (c .before .before .args .into .now)) (c .loop .count))
+sampled c = ap (λ (k : Kind). nextOf k (drop (c .loop .at) (c .before .before .args .text .now))) (all-alike kind.Sample (length (c .before .before .args .into .now)) (c .loop .count))
 
 rest : (c : tie.After-next-item Inv-loop μ-loop) → c .next-item .result ≡ nextOf kind.Sample (drop (c .before .before .before .loop .at) (c .before .before .before .before .before .args .text .now))
 rest c = c .next-item .ensures ∙ ap (nextOf kind.Sample) (rest-of (c .before .before .before .loop .at) (c .before .before .before .before .before .args .text .now))
@@ -45,7 +45,7 @@ narrow : (c : tie.After-known-told Inv-loop μ-loop) → SFits w32 (c .before .x
 narrow c = sample-fits _ _ _ (found c)
 
 loop-holds : tie.Need-loop-holds Inv-loop μ-loop
-loop-holds c = (begun _ _ _ (omega (arith, samples-long (length (c .before .args .into .now)))), refl)
+loop-holds c = (begun _ _ _ (omega (arith, several-long kind.Sample (length (c .before .args .into .now)))), refl)
 
 sub-next-item : tie.Need-sub-next-item Inv-loop μ-loop
 sub-next-item c = c .before .loop .inv .0 .inside
@@ -66,13 +66,13 @@ cast-into : tie.Need-cast-into Inv-loop μ-loop
 cast-into c = rw (toZ-ofZ (fits c)) (narrow c)
 
 mul-t15 : tie.Need-mul-t15 Inv-loop μ-loop
-mul-t15 c = omega (arith, c .before .before .before .before .before .before .before .before .good, c .before .before .before .before .before .before .loop .inv .1, below (c .before .before .before .before .before), samples-long (length (c .before .before .before .before .before .before .before .before .args .into .now)))
+mul-t15 c = omega (arith, c .before .before .before .before .before .before .before .before .good, c .before .before .before .before .before .before .loop .inv .1, below (c .before .before .before .before .before), several-long kind.Sample (length (c .before .before .before .before .before .before .before .before .args .into .now)))
 
 slice-set-from-into : tie.Need-slice-set-from-into Inv-loop μ-loop
 slice-set-from-into c = omega arith
 
 add-count : tie.Need-add-count Inv-loop μ-loop
-add-count c = omega (arith, c .before .before .before .before .before .before .before .before .good, below (c .before .before .before .before .before), samples-long (length (c .before .before .before .before .before .before .before .before .args .into .now)))
+add-count c = omega (arith, c .before .before .before .before .before .before .before .before .good, below (c .before .before .before .before .before), several-long kind.Sample (length (c .before .before .before .before .before .before .before .before .args .into .now)))
 
 add-at : tie.Need-add-at Inv-loop μ-loop
 add-at c = omega (arith, c .before .before .before .before .before .before .before .before .good, c .before .before .before .before .before .before .loop .inv .0 .inside, short c, length-drop (c .before .before .before .before .before .before .loop .at) (c .before .before .before .before .before .before .before .before .args .text .now))
@@ -96,7 +96,7 @@ same-length-2 : tie.Need-same-length-2 Inv-loop μ-loop
 same-length-2 c = c .before .loop .inv .1
 
 returns-2 : tie.Need-returns-2 Inv-loop μ-loop
-returns-2 c = ended _ _ _ _ _ _ (c .before .loop .inv .0) (full (samples (length (c .before .before .before .args .into .now))) (c .before .loop .count) (drop (c .before .loop .at) (c .before .before .before .args .text .now)) (omega (arith, c .loop-test .left, c .before .loop .inv .1, samples-long (length (c .before .before .before .args .into .now)))))
+returns-2 c = ended _ _ _ _ _ _ (c .before .loop .inv .0) (full (samples (length (c .before .before .before .args .into .now))) (c .before .loop .count) (drop (c .before .loop .at) (c .before .before .before .args .text .now)) (omega (arith, c .loop-test .left, c .before .loop .inv .1, several-long kind.Sample (length (c .before .before .before .args .into .now)))))
 
 pub take-samples-spec : {M : Type 1} → statement M
 take-samples-spec =

@@ -43,8 +43,23 @@ enum-told-5 c = search needs
 value-requires-2 : tie.Need-value-requires-2
 value-requires-2 c κs = search needs
 
-sample-requires : tie.Need-sample-requires
-sample-requires c κs = search needs
+in-range-requires : tie.Need-in-range-requires
+in-range-requires c κs = search needs
+
+enum-told-6 : tie.Need-enum-told-6
+enum-told-6 c = search needs
+
+value-requires-3 : tie.Need-value-requires-3
+value-requires-3 c κs = search needs
+
+in-range-requires-2 : tie.Need-in-range-requires-2
+in-range-requires-2 c κs = search needs
+
+enum-told-7 : tie.Need-enum-told-7
+enum-told-7 c = search needs
+
+pair-requires : tie.Need-pair-requires
+pair-requires c κs = search needs
 
 returns : tie.Need-returns
 unfolding worthIn
@@ -64,7 +79,15 @@ returns-4 c = rw (c .before .before .enum-told4 .given .1) (rw (c .before .regis
 
 returns-5 : tie.Need-returns-5
 unfolding worthIn
-returns-5 c = rw (c .before .before .enum-told5 .given .1) (rw (c .before .value2 .ensures) at (c .sample .ensures))
+returns-5 c = rw (c .before .before .enum-told5 .given .1) (rw (c .before .value2 .ensures) at (c .in-range .ensures))
+
+returns-6 : tie.Need-returns-6
+unfolding worthIn
+returns-6 c = rw (c .before .before .enum-told6 .given .1) (rw (c .before .value3 .ensures) at (c .in-range2 .ensures))
+
+returns-7 : tie.Need-returns-7
+unfolding worthIn
+returns-7 c = rw (c .before .enum-told7 .given .1) (c .pair .ensures)
 
 pub worth-in-spec : {M : Type 1} → statement M
 worth-in-spec =
@@ -83,9 +106,16 @@ worth-in-spec =
     byte-address-requires
     enum-told-5
     value-requires-2
-    sample-requires
+    in-range-requires
+    enum-told-6
+    value-requires-3
+    in-range-requires-2
+    enum-told-7
+    pair-requires
     returns
     returns-2
     returns-3
     returns-4
-    returns-5)
+    returns-5
+    returns-6
+    returns-7)

@@ -1,4 +1,4 @@
--- `bare` says something without a number, serials, counts and alarms.
+-- `bare` says something without a number, serials, counts, alarms and a reply.
 use borrow.Author.Needs.{needs}
 use Rattle.console.proofs.turns.bare.Statement.{statement}
 use Rattle.console.proofs.turns.bare.Tie as tie
@@ -6,8 +6,11 @@ use Rattle.console.proofs.turns.bare.Tie as tie
 none-requires : tie.Need-none-requires
 none-requires c κs = search needs
 
+no-reply-requires : tie.Need-no-reply-requires
+no-reply-requires c κs = search needs
+
 returns : tie.Need-returns
-returns c = simp (c .none .ensures)
+returns c = simp (c .before .none .ensures, c .no-reply .ensures)
 
 pub bare-spec : {M : Type 1} → statement M
-bare-spec = tie.close (tie.spec none-requires returns)
+bare-spec = tie.close (tie.spec none-requires no-reply-requires returns)

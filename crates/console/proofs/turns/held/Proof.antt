@@ -10,13 +10,13 @@ hold-requires c κs = search needs
 said-of-hold-requires : tie.Need-said-of-hold-requires
 said-of-hold-requires c κs = search needs
 
-none-requires : tie.Need-none-requires
-none-requires c κs = search needs
+bare-requires : tie.Need-bare-requires
+bare-requires c κs = search needs
 
 returns : tie.Need-returns
 returns c =
     let h = c .before .before .before .before .before .before in
-    simp (c .none .ensures, c .before .said-of-hold .ensures, rw (toZ-ofZ (h .before .fits .port)) at (h .hold .ensures))
+    simp (c .bare .ensures, c .before .said-of-hold .ensures, rw (toZ-ofZ (h .before .fits .port)) at (h .hold .ensures))
 
 pub held-spec : {M : Type 1} → statement M
 held-spec =
@@ -24,5 +24,5 @@ held-spec =
     (tie.spec
     hold-requires
     said-of-hold-requires
-    none-requires
+    bare-requires
     returns)

@@ -3,10 +3,10 @@ use Prim.Native.Nat.{ℕ, _≤_, _-_}
 use mathlib.Core.Path.{_≡_, sym, ap, _∙_}
 use lib.ListN.{length, take, drop}
 use lib.Seq.{length-take-le}
-use Rattle.console.specs.declared.words.Word.the-variants.{Open, Block, Other}
+use Rattle.console.specs.declared.words.Word.the-variants.{Open, Poll, Block, Other}
 use Rattle.console.specs.Texts.{lengthTo}
 use Rattle.console.specs.Words.{wordOf}
-use Rattle.console.specs.Turns.{withItems, withText, withSamples}
+use Rattle.console.specs.Turns.{withItems, withText, withPacket, withSamples}
 use Rattle.console.proofs.TextLaws.{rest-of, to-within}
 use Rattle.console.proofs.TurnLaws.{with-items, long-line, line-with}
 use borrow.Author.Needs.{needs}
@@ -56,11 +56,17 @@ with-text-requires c κs = search needs
 enum-told-2 : tie.Need-enum-told-2
 enum-told-2 c = search needs
 
-with-samples-requires : tie.Need-with-samples-requires
-with-samples-requires c κs = search needs
+with-packet-requires : tie.Need-with-packet-requires
+with-packet-requires c κs = search needs
 
 enum-told-3 : tie.Need-enum-told-3
 enum-told-3 c = search needs
+
+with-samples-requires : tie.Need-with-samples-requires
+with-samples-requires c κs = search needs
+
+enum-told-4 : tie.Need-enum-told-4
+enum-told-4 c = search needs
 
 unread-requires-2 : tie.Need-unread-requires-2
 unread-requires-2 c κs = search needs
@@ -71,24 +77,27 @@ with-items-requires c κs = search needs
 returns-2 : tie.Need-returns-2
 returns-2 c = c .with-text .ensures ∙ ap (withText _) (behind (c .before .before .before)) ∙ line-with _ _ _ _ Open (word (c .before .before .before .before) ∙ c .before .enum-told .given .1) (c .before .before .before .before .before .before .before .if1 .left)
 
+returns-3 : tie.Need-returns-3
+returns-3 c = c .with-packet .ensures ∙ ap (withPacket _) (behind (c .before .before .before)) ∙ line-with _ _ _ _ Poll (word (c .before .before .before .before) ∙ c .before .enum-told2 .given .1) (c .before .before .before .before .before .before .before .if1 .left)
+
 same-length : tie.Need-same-length
 same-length c = search needs
 
 same-length-2 : tie.Need-same-length-2
 same-length-2 c = search needs
 
-returns-3 : tie.Need-returns-3
-returns-3 c = c .before .before .with-samples .ensures ∙ ap (withSamples _ _ _) (behind (c .before .before .before .before .before .before .before)) ∙ line-with _ _ _ _ Block (word (c .before .before .before .before .before .before .before .before) ∙ c .before .before .before .before .before .enum-told2 .given .1) (c .before .before .before .before .before .before .before .before .before .before .before .if1 .left)
-
 returns-4 : tie.Need-returns-4
-returns-4 c = c .unread2 .ensures ∙ line-with _ _ _ _ Other (word (c .before .before .before .before) ∙ c .before .enum-told3 .given .1) (c .before .before .before .before .before .before .before .if1 .left)
+returns-4 c = c .before .before .with-samples .ensures ∙ ap (withSamples _ _ _) (behind (c .before .before .before .before .before .before .before)) ∙ line-with _ _ _ _ Block (word (c .before .before .before .before .before .before .before .before) ∙ c .before .before .before .before .before .enum-told3 .given .1) (c .before .before .before .before .before .before .before .before .before .before .before .if1 .left)
 
 returns-5 : tie.Need-returns-5
-returns-5 c =
+returns-5 c = c .unread2 .ensures ∙ line-with _ _ _ _ Other (word (c .before .before .before .before) ∙ c .before .enum-told4 .given .1) (c .before .before .before .before .before .before .before .if1 .left)
+
+returns-6 : tie.Need-returns-6
+returns-6 c =
     let w = c .before .before .before in
     c .with-items .ensures
     ∙ ap (withItems _ (w .first-word .result)) (behind (c .before .before))
-    ∙ with-items _ _ _ (w .first-word .result) _ (c .before .match .keys4)
+    ∙ with-items _ _ _ (w .first-word .result) _ (c .before .match .keys5)
     ∙ line-with _ _ _ _ (w .first-word .result) (word w) (c .before .before .before .before .before .before .if1 .left)
 
 pub take-line-spec : {M : Type 1} → statement M
@@ -106,13 +115,16 @@ take-line-spec =
     enum-told
     with-text-requires
     enum-told-2
-    with-samples-requires
+    with-packet-requires
     enum-told-3
+    with-samples-requires
+    enum-told-4
     unread-requires-2
     with-items-requires
     returns-2
+    returns-3
     same-length
     same-length-2
-    returns-3
     returns-4
-    returns-5)
+    returns-5
+    returns-6)

@@ -4,19 +4,20 @@ use mathlib.Core.Path.{sym, ap, _∙_}
 use native.Mathlib.Omega.{arith}
 use lib.ListN.{length, take, drop}
 use lib.Seq.{length-take-le}
+use Rattle.console.specs.declared.words.Kind.the-variants as kind
 use Rattle.console.specs.declared.unread.Why.{Why}
 use Rattle.console.specs.Items.{samples}
 use Rattle.console.specs.Unread.{sideStopped}
 use Rattle.console.specs.Turns.{unreadTurn, steppedTurn}
 use Rattle.console.proofs.TextLaws.{rest-of}
-use Rattle.console.proofs.ItemLaws.{row-count, samples-long}
+use Rattle.console.proofs.ItemLaws.{row-count, several-long}
 use Rattle.console.proofs.TurnLaws.{odd-current, whole-block}
 use borrow.Author.Needs.{needs}
 use Rattle.console.proofs.turns.with_currents.Statement.{statement}
 use Rattle.console.proofs.turns.with_currents.Tie as tie
 
 room : (c : tie.After-take-samples) → c .take-samples .result .count ≤ length (c .take-samples .last .1 .0)
-room c = omega (arith, c .take-samples .ensures .count, row-count (samples (length (c .before .before .before .args .i .now))) (c .before .before .before .args .text .now), samples-long (length (c .before .before .before .args .i .now)), c .take-samples .kept .1 .0)
+room c = omega (arith, c .take-samples .ensures .count, row-count (samples (length (c .before .before .before .args .i .now))) (c .before .before .before .args .text .now), several-long kind.Sample (length (c .before .before .before .args .i .now)), c .take-samples .kept .1 .0)
 
 take-samples-requires : tie.Need-take-samples-requires
 take-samples-requires c κs = search needs

@@ -5,13 +5,14 @@ use mathlib.Core.List.{List, [], _∷_}
 use native.Mathlib.Omega.{arith}
 use lib.ListN.{length, take, drop}
 use lib.Seq.{length-take-le}
+use Rattle.console.specs.declared.words.Kind.the-variants as kind
 use Rattle.console.specs.declared.unread.Why.{Why}
 use Rattle.console.specs.Texts.{beginsWith}
 use Rattle.console.specs.Items.{samples}
 use Rattle.console.specs.Unread.{sideStopped}
 use Rattle.console.specs.Turns.{unreadTurn, currentsTurn}
 use Rattle.console.proofs.TextLaws.{begins-within, rest-of}
-use Rattle.console.proofs.ItemLaws.{row-within, row-count, samples-long}
+use Rattle.console.proofs.ItemLaws.{row-within, row-count, several-long}
 use Rattle.console.proofs.TurnLaws.{no-bar, behind-bar}
 use borrow.Author.Needs.{needs}
 use Rattle.console.proofs.turns.with_samples.Statement.{statement}
@@ -21,7 +22,7 @@ inside : (c : tie.After-take-samples) → c .take-samples .result .taken ≤ len
 inside c = rw (c .take-samples .ensures .bytes) (row-within (samples (length (c .before .before .before .args .v .now))) (c .before .before .before .args .rest .now))
 
 room : (c : tie.After-take-samples) → c .take-samples .result .count ≤ length (c .take-samples .last .1 .0)
-room c = omega (arith, c .take-samples .ensures .count, row-count (samples (length (c .before .before .before .args .v .now))) (c .before .before .before .args .rest .now), samples-long (length (c .before .before .before .args .v .now)), c .take-samples .kept .1 .0)
+room c = omega (arith, c .take-samples .ensures .count, row-count (samples (length (c .before .before .before .args .v .now))) (c .before .before .before .args .rest .now), several-long kind.Sample (length (c .before .before .before .args .v .now)), c .take-samples .kept .1 .0)
 
 barred : (c : tie.After-begins) → c .begins .result ≡ beginsWith (32 ∷ 124 ∷ []) (drop (c .before .before .before .before .take-samples .result .taken) (c .before .before .before .before .before .before .before .args .rest .now))
 barred c = c .begins .ensures ∙ ap (beginsWith (32 ∷ 124 ∷ [])) (rest-of (c .before .before .before .before .take-samples .result .taken) (c .before .before .before .before .before .before .before .args .rest .now))

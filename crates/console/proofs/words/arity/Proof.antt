@@ -42,6 +42,9 @@ enum-told-11 c = search needs
 enum-told-12 : tie.Need-enum-told-12
 enum-told-12 c = search needs
 
+enum-told-13 : tie.Need-enum-told-13
+enum-told-13 c = search needs
+
 returns : tie.Need-returns
 unfolding itemsOf
 returns c = rw (c .enum-told .given .1) (refl, omega arith)
@@ -90,6 +93,10 @@ returns-12 : tie.Need-returns-12
 unfolding itemsOf
 returns-12 c = rw (c .enum-told12 .given .1) (refl, omega arith)
 
+returns-13 : tie.Need-returns-13
+unfolding itemsOf
+returns-13 c = rw (c .enum-told13 .given .1) (refl, omega arith)
+
 pub arity-spec : {M : Type 1} → statement M
 arity-spec =
     tie.close
@@ -106,6 +113,7 @@ arity-spec =
     enum-told-10
     enum-told-11
     enum-told-12
+    enum-told-13
     returns
     returns-2
     returns-3
@@ -117,4 +125,5 @@ arity-spec =
     returns-9
     returns-10
     returns-11
-    returns-12)
+    returns-12
+    returns-13)

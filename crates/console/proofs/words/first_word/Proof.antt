@@ -6,7 +6,7 @@ use lib.ListN.{drop}
 use denote.Ref.{now}
 use Rattle.serial.specs.Ascii.{ascii}
 use Rattle.serial.specs.Texts.{sameText}
-use Rattle.console.specs.declared.words.Word.the-variants.{Start, Open, Write, Commit, Drop, Hold, Read, Block, Reset, Cards, Help}
+use Rattle.console.specs.declared.words.Word.the-variants.{Start, Open, Write, Commit, Drop, Hold, Read, Poll}
 use Rattle.console.specs.Words.{lettersOf, words, firstOf, wordOf}
 use Rattle.console.proofs.WordLaws.{chosen, passed}
 use borrow.Author.Needs.{needs}
@@ -89,42 +89,12 @@ after-7 c = after-6 (c .before .before .before) ∙ passed Read (drop 7 words) (
 abbrev item-8 : tie.Else8 → List ℕ
 item-8 c = item-7 (c .before .before .before)
 
-is-8 : (c : tie.After-same-text8) → c .same-text8 .result ≡ sameText (lettersOf Block) (item-7 (c .before .before))
+is-8 : (c : tie.After-same-text8) → c .same-text8 .result ≡ sameText (lettersOf Poll) (item-7 (c .before .before))
 unfolding lettersOf ascii
 is-8 c = c .same-text8 .ensures
 
 after-8 : (c : tie.Else8) → wordOf (item-8 c) ≡ firstOf (drop 8 words) (item-8 c)
-after-8 c = after-7 (c .before .before .before) ∙ passed Block (drop 8 words) (item-8 c) (sym (is-8 (c .before)) ∙ c .if8 .left)
-
-abbrev item-9 : tie.Else9 → List ℕ
-item-9 c = item-8 (c .before .before .before)
-
-is-9 : (c : tie.After-same-text9) → c .same-text9 .result ≡ sameText (lettersOf Reset) (item-8 (c .before .before))
-unfolding lettersOf ascii
-is-9 c = c .same-text9 .ensures
-
-after-9 : (c : tie.Else9) → wordOf (item-9 c) ≡ firstOf (drop 9 words) (item-9 c)
-after-9 c = after-8 (c .before .before .before) ∙ passed Reset (drop 9 words) (item-9 c) (sym (is-9 (c .before)) ∙ c .if9 .left)
-
-abbrev item-10 : tie.Else10 → List ℕ
-item-10 c = item-9 (c .before .before .before)
-
-is-10 : (c : tie.After-same-text10) → c .same-text10 .result ≡ sameText (lettersOf Cards) (item-9 (c .before .before))
-unfolding lettersOf ascii
-is-10 c = c .same-text10 .ensures
-
-after-10 : (c : tie.Else10) → wordOf (item-10 c) ≡ firstOf (drop 10 words) (item-10 c)
-after-10 c = after-9 (c .before .before .before) ∙ passed Cards (drop 10 words) (item-10 c) (sym (is-10 (c .before)) ∙ c .if10 .left)
-
-abbrev item-11 : tie.Else11 → List ℕ
-item-11 c = item-10 (c .before .before .before)
-
-is-11 : (c : tie.After-same-text11) → c .same-text11 .result ≡ sameText (lettersOf Help) (item-10 (c .before .before))
-unfolding lettersOf ascii
-is-11 c = c .same-text11 .ensures
-
-after-11 : (c : tie.Else11) → wordOf (item-11 c) ≡ firstOf (drop 11 words) (item-11 c)
-after-11 c = after-10 (c .before .before .before) ∙ passed Help (drop 11 words) (item-11 c) (sym (is-11 (c .before)) ∙ c .if11 .left)
+after-8 c = after-7 (c .before .before .before) ∙ passed Poll (drop 8 words) (item-8 c) (sym (is-8 (c .before)) ∙ c .if8 .left)
 
 -- ---- what is left to show
 
@@ -213,43 +183,13 @@ same-text-requires-8 c κs = search needs
 returns-8 : tie.Need-returns-8
 returns-8 c =
     let e = c .before .before .before in
-    sym (after-7 e ∙ chosen Block (drop 8 words) (item-7 e) (sym (is-8 (c .before)) ∙ c .if8 .taken))
+    sym (after-7 e ∙ chosen Poll (drop 8 words) (item-7 e) (sym (is-8 (c .before)) ∙ c .if8 .taken))
 
-slice-aggregate-same-text-9 : tie.Need-slice-aggregate-same-text-9
-slice-aggregate-same-text-9 c = search needs
-
-same-text-requires-9 : tie.Need-same-text-requires-9
-same-text-requires-9 c κs = search needs
+later-word-requires : tie.Need-later-word-requires
+later-word-requires c κs = search needs
 
 returns-9 : tie.Need-returns-9
-returns-9 c =
-    let e = c .before .before .before in
-    sym (after-8 e ∙ chosen Reset (drop 9 words) (item-8 e) (sym (is-9 (c .before)) ∙ c .if9 .taken))
-
-slice-aggregate-same-text-10 : tie.Need-slice-aggregate-same-text-10
-slice-aggregate-same-text-10 c = search needs
-
-same-text-requires-10 : tie.Need-same-text-requires-10
-same-text-requires-10 c κs = search needs
-
-returns-10 : tie.Need-returns-10
-returns-10 c =
-    let e = c .before .before .before in
-    sym (after-9 e ∙ chosen Cards (drop 10 words) (item-9 e) (sym (is-10 (c .before)) ∙ c .if10 .taken))
-
-slice-aggregate-same-text-11 : tie.Need-slice-aggregate-same-text-11
-slice-aggregate-same-text-11 c = search needs
-
-same-text-requires-11 : tie.Need-same-text-requires-11
-same-text-requires-11 c κs = search needs
-
-returns-11 : tie.Need-returns-11
-returns-11 c =
-    let e = c .before .before .before in
-    sym (after-10 e ∙ chosen Help (drop 11 words) (item-10 e) (sym (is-11 (c .before)) ∙ c .if11 .taken))
-
-returns-12 : tie.Need-returns-12
-returns-12 c = sym (after-11 c)
+returns-9 c = c .later-word .ensures ∙ sym (after-8 (c .before))
 
 pub first-word-spec : {M : Type 1} → statement M
 first-word-spec =
@@ -279,13 +219,5 @@ first-word-spec =
     slice-aggregate-same-text-8
     same-text-requires-8
     returns-8
-    slice-aggregate-same-text-9
-    same-text-requires-9
-    returns-9
-    slice-aggregate-same-text-10
-    same-text-requires-10
-    returns-10
-    slice-aggregate-same-text-11
-    same-text-requires-11
-    returns-11
-    returns-12)
+    later-word-requires
+    returns-9)
