@@ -336,8 +336,8 @@ impl Module {
             × (now (out .exit) ≡ pollBuffer self (now (packet .entry)) (now (out .entry))) ⌝ }
     {
         let track = self.meter.work.settings.track;
-        let copied = Held::copy(self.meter.work.any, self.meter.work.last, track);
-        let own = copied.held;
+        let taken = Held::copy(self.meter.work.any, self.meter.work.last, track);
+        let own = taken.held;
         let replied = poll::answer(own, packet, out);
         self.poll_of(own, replied)
     }

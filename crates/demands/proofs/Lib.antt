@@ -11,3 +11,4 @@ pub mod History
 pub mod Alarms
 pub mod Holds
 pub mod Day
+pub mod Evening

@@ -10,3 +10,4 @@ pub mod Holds
 pub mod EnergyHistory
 pub mod History
 pub mod Day
+pub mod Evening
