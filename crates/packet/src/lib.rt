@@ -107,7 +107,7 @@ fn selects(c: u8, behind: &[u8]) -> bool
 }
 
 // The target that a command selects.
-fn target(c: u8, behind: &[u8]) -> u8
+fn target_of(c: u8, behind: &[u8]) -> u8
     ensures { λ r. ⌜ r ≡ targetOf c (now (behind .entry)) ⌝ }
 {
     if c == 0xCF {
@@ -214,7 +214,7 @@ pub fn obey(l: Line, c: u8, behind: &[u8]) -> Command
     ensures { λ r. ⌜ r ≡ commandOf l c (now (behind .entry)) ⌝ }
 {
     if selects(c, behind) {
-        return select(l, target(c, behind));
+        return select(l, target_of(c, behind));
     }
     if l.selected {
         return while_selected(l, c, behind);

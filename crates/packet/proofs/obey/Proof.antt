@@ -8,15 +8,15 @@ use Rattle.packet.proofs.obey.Tie as tie
 selects-requires : tie.Need-selects-requires
 selects-requires c κs = search needs
 
-target-requires : tie.Need-target-requires
-target-requires c κs = search needs
+target-of-requires : tie.Need-target-of-requires
+target-of-requires c κs = search needs
 
 select-requires : tie.Need-select-requires
 select-requires c κs = search needs
 
 returns : tie.Need-returns
 unfolding commandOf
-returns c = simp (c .select .ensures, c .before .target .ensures, sym (c .before .before .before .selects .ensures) ∙ c .before .before .if1 .taken)
+returns c = simp (c .select .ensures, c .before .target-of .ensures, sym (c .before .before .before .selects .ensures) ∙ c .before .before .if1 .taken)
 
 while-selected-requires : tie.Need-while-selected-requires
 while-selected-requires c κs = search needs
@@ -34,7 +34,7 @@ obey-spec =
     tie.close
     (tie.spec
     selects-requires
-    target-requires
+    target-of-requires
     select-requires
     returns
     while-selected-requires
