@@ -1,5 +1,5 @@
 -- A poll counts as its hold and its reads.
-use Prim.Native.Nat.{ℕ, _+_, _*_, _≤_}
+use Prim.Native.Nat.{ℕ, _+_, _*_}
 use mathlib.Core.Path.{_≡_, refl, sym, ap, subst, _∙_}
 use mathlib.Core.Bool.{Bool, true, false, cond, _&&_, and-false, true≢false}
 use mathlib.Core.List.{List, [], _∷_, map}
@@ -8,24 +8,20 @@ use lib.Dec.{eqb, leb, ltb}
 use lib.IntN.{ℤ, pos}
 use lib.ListN.{length}
 use borrow.Author.Tests.{leb-true}
-use Rattle.steps.specs.Answers.{OrRefusal, refused, accepted, andThen}
-use Rattle.steps.specs.Port.{port0, port1, PerPort, on}
+use Rattle.steps.specs.Answers.{OrRefusal, refused, accepted}
+use Rattle.steps.specs.Port.{port1, on}
 use Rattle.steps.specs.Module.{Op, hold, read}
 use Rattle.steps.specs.Calls.{Reply as Rep, returns, Log, noted}
 use Rattle.steps.specs.declared.Answer.the-variants.{Done, Refused}
 use Rattle.serial.specs.Places.{put}
 use Rattle.serial.proofs.Places.{put-fits}
-use Rattle.address.specs.declared.WordAddr.{WordAddr}
-use Rattle.address.specs.declared.ByteAddr.{ByteAddr}
-use Rattle.interval.specs.declared.Closed.{Closed}
 use Rattle.port.specs.declared.Held.{Held}
 use Rattle.port.specs.Holds.{Value, register, copyOf, copied, nothingHeld, told}
 use Rattle.port.specs.Reading.{look}
-use Rattle.port.specs.Answers.{looked}
 use Rattle.packet.specs.declared.Ending.{Ending}
 use Rattle.packet.specs.declared.Ending.the-variants.{Whole, Fails, Unanswered}
 use Rattle.packet.specs.Commands.{askedBy}
-use Rattle.packet.specs.Replies.{Reply, none, code, values, joined, readAll, sending, replied, replyTo, valuesReply, replyBytes, sends}
+use Rattle.packet.specs.Replies.{Reply, code, values, joined, readAll, sending, replied, replyTo, valuesReply, replyBytes, sends}
 use Rattle.poll.specs.Polls.{readAt, replyFrom}
 use Rattle.aberzhan.specs.declared.Module.{Module}
 use Rattle.aberzhan.specs.declared.Polled.{Polled}

@@ -12,7 +12,7 @@ use Rattle.port.specs.declared.Held.{Held}
 use Rattle.port.specs.declared.Copied.{Copied}
 use Rattle.port.specs.Holds.{nothingHeld, copied}
 use Rattle.port.specs.Answers.{copying}
-use Rattle.packet.specs.Replies.{Reply, replyBytes, sends}
+use Rattle.packet.specs.Replies.{Reply, replyBytes}
 use Rattle.poll.specs.Polls.{replyFrom, repliedIn}
 use Rattle.aberzhan.specs.declared.Module.{Module}
 use Rattle.aberzhan.specs.declared.Polled.{Polled}

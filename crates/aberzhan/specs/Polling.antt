@@ -4,7 +4,7 @@ use mathlib.Core.Bool.{cond}
 use mathlib.Core.List.{List}
 use lib.Dec.{leb}
 use lib.ListN.{length}
-use Rattle.steps.specs.Answers.{OrRefusal, orAsBefore}
+use Rattle.steps.specs.Answers.{orAsBefore}
 use Rattle.steps.specs.Port.{port1}
 use Rattle.steps.specs.declared.Answer.the-variants.{Done, Refused}
 use Rattle.serial.specs.Places.{putWithin}

@@ -1,26 +1,24 @@
 -- Polls, from the contracts: each counts as its hold and its reads, and every register can be polled.
-use Prim.Native.Nat.{ℕ, _+_, _≤_}
+use Prim.Native.Nat.{ℕ, _≤_}
 use mathlib.Core.Path.{_≡_, refl, sym, ap, subst, _∙_}
-use mathlib.Core.Bool.{Bool, true, false, cond, true≢false}
+use mathlib.Core.Bool.{Bool, true, false, cond}
 use mathlib.Core.List.{List, [], _∷_}
 use native.Mathlib.Nat.{zero-add}
-use native.Mathlib.Omega.{arith}
-use borrow.Author.Tests.{le-leb, leb-true}
+use borrow.Author.Tests.{le-leb}
 use lib.Dec.{leb}
 use lib.IntN.{ℤ, pos}
 use lib.ListN.{length}
 use Rattle.steps.specs.Answers.{OrRefusal, refused, accepted}
 use Rattle.steps.specs.Port.{port1, on}
-use Rattle.steps.specs.Calls.{Reply as Back, refuses, done, returns, Log, Ran}
+use Rattle.steps.specs.Calls.{Reply as Back, refuses, done, returns, Log}
 use Rattle.steps.specs.declared.Answer.{Answer}
 use Rattle.steps.specs.declared.Answer.the-variants.{Done, Refused}
 use Rattle.serial.specs.Places.{put, putWithin}
-use Rattle.serial.proofs.Places.{put-fits}
 use Rattle.card.specs.Cards.{bits24, threeBytes, fieldsBytes}
 use Rattle.port.specs.declared.Held.{Held}
-use Rattle.port.specs.Holds.{Value, interval, register, nothingHeld, copyOf, copied}
+use Rattle.port.specs.Holds.{interval, register, copied}
 use Rattle.port.specs.Answers.{looked}
-use Rattle.packet.specs.Commands.{Asked, askedBy}
+use Rattle.packet.specs.Commands.{Asked}
 use Rattle.packet.specs.Replies.{Reply, values, sending, readAll, replied, replyTo, withSum, valuesReply, replyBytes}
 use Rattle.packet.specs.Requests.{readPacket}
 use Rattle.packet.proofs.Requests.{asks-one}
@@ -29,12 +27,12 @@ use Rattle.aberzhan.specs.declared.Module.{Module}
 use Rattle.aberzhan.specs.declared.Holding.{Holding}
 use Rattle.aberzhan.specs.declared.Polled.{Polled}
 use Rattle.aberzhan.specs.Ports.{aberzhan}
-use Rattle.aberzhan.specs.Module.{withHeld, portAt, holdOf, readOf}
+use Rattle.aberzhan.specs.Module.{portAt, holdOf, readOf}
 use Rattle.aberzhan.specs.Polling.{heldNow, replyOf, afterReply, pollOf, pollBuffer}
-use Rattle.aberzhan.specs.Calls.{readReply, returned, program}
-use Rattle.aberzhan.specs.Turns.{sentBy, readCall, poll, countsAs}
+use Rattle.aberzhan.specs.Calls.{readReply}
+use Rattle.aberzhan.specs.Turns.{readCall}
 use Rattle.aberzhan.specs.Counting.{valuesRead}
-use Rattle.aberzhan.proofs.Contracts.{Polls, polled-is, held-by, allowed-is, ran-is}
+use Rattle.aberzhan.proofs.Contracts.{polled-is, held-by, allowed-is, ran-is}
 use Rattle.aberzhan.proofs.Counting.{poll-counts}
 use Rattle.demands.specs.Polls.{PollsTell, EveryRegister}
 

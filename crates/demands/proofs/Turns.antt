@@ -1,6 +1,6 @@
 -- A program's log is that of the calls which its turns count as: their contracts allow it too.
 use Prim.Native.Nat.{ℕ}
-use mathlib.Core.Path.{_≡_, refl, sym, ap, subst, _∙_}
+use mathlib.Core.Path.{_≡_, refl, ap, subst, _∙_}
 use mathlib.Core.List.{List, [], _∷_, _++_, map}
 use mathlib.Core.Option.{none, some}
 use lib.IntN.{ℤ, pos}
@@ -14,7 +14,7 @@ use Rattle.aberzhan.specs.Ports.{aberzhan}
 use Rattle.aberzhan.specs.Module.{holdOf, readOf}
 use Rattle.aberzhan.specs.Polling.{pollOf}
 use Rattle.aberzhan.specs.Calls.{Call, callHold, callRead, stepOf, returned, program}
-use Rattle.aberzhan.specs.Turns.{Turn, call, poll, sentBy, readCall, pollCalls, countsAs, callsOf, notedAll}
+use Rattle.aberzhan.specs.Turns.{Turn, poll, sentBy, readCall, pollCalls, countsAs, callsOf, notedAll}
 use Rattle.aberzhan.proofs.Contracts.{Allows, methods, polled-is, allowed-is}
 use Rattle.aberzhan.proofs.Counting.{poll-counts}
 use Rattle.demands.specs.Program as P

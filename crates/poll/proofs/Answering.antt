@@ -3,9 +3,7 @@ use Prim.Native.Nat.{ℕ, _-_}
 use mathlib.Core.Path.{_≡_, sym, ap, _∙_}
 use mathlib.Core.List.{List}
 use native.Mathlib.Omega.{arith}
-use lib.IntN.{ℤ}
 use lib.ListN.{length, take, drop}
-use Rattle.steps.specs.Answers.{OrRefusal}
 use Rattle.serial.specs.Places.{part}
 use Rattle.port.specs.declared.Held.{Held}
 use Rattle.packet.specs.declared.Ending.{Ending}

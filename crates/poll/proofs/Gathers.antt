@@ -7,7 +7,6 @@ use lib.IntN.{ℤ}
 use lib.ListN.{length, getD, drop, drop-of-length-le}
 use lib.Seq.{drop-cons, drop-drop}
 use native.Mathlib.Numerals.{add-one}
-use native.Mathlib.Nat.{add-comm}
 use Rattle.steps.specs.Answers.{OrRefusal, refused, accepted}
 use Rattle.packet.specs.declared.Line.{Line}
 use Rattle.packet.specs.declared.Command.{Command}

@@ -6,17 +6,17 @@ use mathlib.Core.List.{List, [], _∷_, _++_, append-assoc, append-nil}
 use native.Mathlib.Nat.{not-le-of-lt}
 use native.Mathlib.Numerals.{add-one}
 use native.Mathlib.Omega.{arith}
-use borrow.Author.Tests.{lt-ltb, le-ltb, ltb-true, ltb-false, eq-eqb, ne-eqb, eqb-true, eqb-false}
+use borrow.Author.Tests.{lt-ltb, le-ltb, ltb-true, ltb-false}
 use lib.Dec.{eqb, ltb}
-use lib.IntN.{ℤ, pos}
+use lib.IntN.{ℤ}
 use lib.ListN.{length, take, set, length-append, length-set}
 use lib.Seq.{take-suc-set}
 use Rattle.steps.specs.Answers.{OrRefusal, refused, accepted, andThen}
 use Rattle.packet.specs.declared.Ending.{Ending}
 use Rattle.packet.specs.declared.Ending.the-variants.{Whole, Fails, Unanswered}
-use Rattle.packet.specs.Codes.{acknowledge, tooLong}
+use Rattle.packet.specs.Codes.{acknowledge}
 use Rattle.packet.specs.Commands.{Asked}
-use Rattle.packet.specs.Replies.{Reply, code, values, joined, readAll, sending, replied}
+use Rattle.packet.specs.Replies.{code, values, joined, readAll, sending, replied}
 use Rattle.poll.specs.declared.Gathered.{Gathered}
 use Rattle.poll.specs.declared.Taken.{Taken}
 use Rattle.poll.specs.Inside.{noneGathered, keeping, takenIf, readInto, endedBy, gathers, sendingOf, replyOf}

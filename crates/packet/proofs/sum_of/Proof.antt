@@ -1,11 +1,11 @@
 -- `packet::sum_of` meets its contract.
 use Prim.Native.Nat.{ℕ, _+_, _-_, _%_, _≤_, _<_}
-use mathlib.Core.Path.{_≡_, refl, sym, ap, _∙_}
+use mathlib.Core.Path.{_≡_, ap, _∙_}
 use native.Mathlib.Nat.{zero-add}
 use native.Mathlib.Omega.{arith}
 use lib.ListN.{length, drop}
 use borrow.Author.Needs.{needs}
-use Rattle.packet.specs.Packets.{sumOf, checksum}
+use Rattle.packet.specs.Packets.{sumOf}
 use Rattle.packet.proofs.Sums.{sum-turn, sum-done}
 use Rattle.packet.proofs.sum_of.Statement.{statement}
 use Rattle.packet.proofs.sum_of.Tie as tie

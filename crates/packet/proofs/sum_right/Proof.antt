@@ -1,5 +1,5 @@
 -- `packet::sum_right` meets its contract.
-use mathlib.Core.Path.{_≡_, sym}
+use mathlib.Core.Path.{sym}
 use native.Mathlib.Omega.{arith}
 use lib.Seq.{length-take-le}
 use Rattle.packet.specs.Packets.{sumRight}

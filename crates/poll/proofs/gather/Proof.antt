@@ -5,9 +5,8 @@ use lib.Seq.{take-all}
 use Rattle.packet.specs.Commands.{parameters, commandOf}
 use Rattle.packet.proofs.Bounds.{parameters-most}
 use Rattle.poll.specs.declared.Walked.{Walked}
-use Rattle.poll.specs.declared.Gathering.{Gathering}
 use Rattle.poll.specs.Inside.{walked}
-use Prim.Native.Nat.{ℕ, _+_, _-_, _≤_}
+use Prim.Native.Nat.{ℕ, _+_, _-_}
 use mathlib.Core.Path.{_≡_, refl, sym, ap, _∙_}
 use native.Mathlib.Omega.{arith}
 use lib.ListN.{length, drop}

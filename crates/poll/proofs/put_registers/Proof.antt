@@ -6,8 +6,8 @@ use mir.Facts.{toZ-ofZ}
 use Rattle.serial.specs.Places.{putWithin}
 use Rattle.card.specs.Cards.{bits24, threeBytes}
 use Rattle.poll.proofs.Putting.{registers-none, registers-more, registers-all}
-use Prim.Native.Nat.{ℕ, _+_, _-_, _*_, _≤_}
-use mathlib.Core.Path.{_≡_, refl, sym, ap, _∙_}
+use Prim.Native.Nat.{_+_, _-_, _*_, _≤_}
+use mathlib.Core.Path.{_≡_, refl, ap, _∙_}
 use native.Mathlib.Omega.{arith}
 use lib.ListN.{length, take}
 use borrow.Author.Needs.{needs}

@@ -1,7 +1,6 @@
 -- `poll::put_values` meets its contract: the code and the count, the registers, and the sum of these.
-use mathlib.Core.Path.{_≡_, sym, ap, _∙_}
+use mathlib.Core.Path.{sym, ap, _∙_}
 use native.Mathlib.Omega.{arith}
-use lib.ListN.{length, take}
 use lib.Seq.{length-take-le}
 use Rattle.packet.specs.Packets.{checksum}
 use Rattle.poll.proofs.Putting.{front-is, front-summed, reply-is}

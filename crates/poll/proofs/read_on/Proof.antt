@@ -1,9 +1,8 @@
 -- `poll::read_on` meets its contract: what is gathered so far, with what is left to read.
 use mir.Syntax.{w64}
 use mir.Val.{SFits}
-use Rattle.poll.specs.Inside.{keeping}
 use mir.Facts.{toZ-ofZ}
-use Prim.Native.Nat.{ℕ, _+_, _-_, _*_, _≤_}
+use Prim.Native.Nat.{_+_, _-_, _*_}
 use mathlib.Core.Path.{_≡_, refl, sym, ap, _∙_}
 use native.Mathlib.Omega.{arith}
 use borrow.Author.Needs.{needs}

@@ -1,5 +1,5 @@
 -- `poll::send` meets its contract.
-use mathlib.Core.Path.{_≡_, sym, ap}
+use mathlib.Core.Path.{sym, ap}
 use Rattle.packet.specs.declared.Ending.{Ending}
 use Rattle.poll.specs.Inside.{replyIf}
 use Rattle.poll.proofs.Sending.{none-replied, none-put, of-reply}

@@ -1,6 +1,4 @@
 -- `poll::send_code` meets its contract.
-use mathlib.Core.Path.{sym, ap}
-use borrow.Author.Tests.{lt-ltb, le-ltb}
 use Rattle.packet.specs.Replies.{replyBytes}
 use Rattle.poll.specs.Polls.{repliedIn}
 use borrow.Author.Needs.{needs}

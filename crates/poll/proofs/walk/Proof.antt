@@ -2,7 +2,7 @@
 use Rattle.poll.specs.declared.Taken.{Taken}
 use Rattle.poll.specs.Polls.{readAt}
 use Rattle.poll.specs.Inside.{afterRead}
-use mathlib.Core.Path.{_≡_, sym, ap, _∙_}
+use mathlib.Core.Path.{sym, ap, _∙_}
 use Rattle.poll.specs.Inside.{walked}
 use borrow.Author.Needs.{needs}
 use Rattle.poll.proofs.walk.Statement.{statement}
