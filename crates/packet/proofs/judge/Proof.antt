@@ -30,15 +30,29 @@ sum-right-requires c κs = omega (arith, framed (c .before .before .before .befo
 
 returns-3 : tie.Need-returns-3
 unfolding judged
-returns-3 c = simp (sym (c .before .before .before .before .before .before .is-none .ensures) ∙ c .before .before .before .before .before .if1 .left, sym (c .before .before .before .before .byte-at .ensures), le-ltb _ _ (c .before .before .before .if2 .left), sym (c .before .before .sum-right .ensures) ∙ c .before .if3 .taken, eq-eqb _ _ (c .if4 .taken))
+returns-3 c =
+    let is-none = c .before .before .before .before .before .before .is-none in
+    let if1 = c .before .before .before .before .before .if1 in
+    let byte-at = c .before .before .before .before .byte-at in
+    let if2 = c .before .before .before .if2 in
+    simp (sym (is-none .ensures) ∙ if1 .left, sym (byte-at .ensures), le-ltb _ _ (if2 .left), sym (c .before .before .sum-right .ensures) ∙ c .before .if3 .taken, eq-eqb _ _ (c .if4 .taken))
 
 returns-4 : tie.Need-returns-4
 unfolding judged
-returns-4 c = simp (sym (c .before .before .before .before .before .before .is-none .ensures) ∙ c .before .before .before .before .before .if1 .left, sym (c .before .before .before .before .byte-at .ensures), le-ltb _ _ (c .before .before .before .if2 .left), sym (c .before .before .sum-right .ensures) ∙ c .before .if3 .taken, ne-eqb _ _ (c .if4 .left))
+returns-4 c =
+    let is-none = c .before .before .before .before .before .before .is-none in
+    let if1 = c .before .before .before .before .before .if1 in
+    let byte-at = c .before .before .before .before .byte-at in
+    let if2 = c .before .before .before .if2 in
+    simp (sym (is-none .ensures) ∙ if1 .left, sym (byte-at .ensures), le-ltb _ _ (if2 .left), sym (c .before .before .sum-right .ensures) ∙ c .before .if3 .taken, ne-eqb _ _ (c .if4 .left))
 
 returns-5 : tie.Need-returns-5
 unfolding judged
-returns-5 c = simp (sym (c .before .before .before .before .before .is-none .ensures) ∙ c .before .before .before .before .if1 .left, sym (c .before .before .before .byte-at .ensures), le-ltb _ _ (c .before .before .if2 .left), sym (c .before .sum-right .ensures) ∙ c .if3 .left)
+returns-5 c =
+    let is-none = c .before .before .before .before .before .is-none in
+    let if1 = c .before .before .before .before .if1 in
+    let byte-at = c .before .before .before .byte-at in
+    simp (sym (is-none .ensures) ∙ if1 .left, sym (byte-at .ensures), le-ltb _ _ (c .before .before .if2 .left), sym (c .before .sum-right .ensures) ∙ c .if3 .left)
 
 pub judge-spec : {M : Type 1} → statement M
 judge-spec =

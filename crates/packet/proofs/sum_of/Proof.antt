@@ -35,7 +35,13 @@ loop-less : tie.Need-loop-less Inv-loop μ-loop
 loop-less c = search needs
 
 loop-again : tie.Need-loop-again Inv-loop μ-loop
-loop-again c = (omega arith, omega arith, rw (c .wide .ensures .0) (sum-turn (c .before .before .before .before .before .args .bytes .now) (c .before .before .before .loop .sum) (c .before .before .before .loop .k) (omega arith) ∙ c .before .before .before .loop .inv .2))
+loop-again c =
+    let args = c .before .before .before .before .before .args in
+    let loop = c .before .before .before .loop in (
+      omega arith,
+      omega arith,
+      rw (c .wide .ensures .0) (sum-turn (args .bytes .now) (loop .sum) (loop .k) (omega arith) ∙ loop .inv .2),
+    )
 
 cast-result : tie.Need-cast-result Inv-loop μ-loop
 cast-result c = omega (arith, c .before .loop .inv .1)

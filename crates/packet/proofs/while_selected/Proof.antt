@@ -25,11 +25,19 @@ point-requires c κs = search needs
 
 returns-3 : tie.Need-returns-3
 unfolding whileSelected
-returns-3 c = simp (sym (c .before .before .before .before .before .not-used .ensures) ∙ c .before .before .before .before .if1 .left, sym (c .before .before .before .parameters .ensures), le-ltb _ _ (c .before .before .if2 .left), le-leb _ _ (c .before .if3 .taken), c .point .ensures)
+returns-3 c =
+    let not-used = c .before .before .before .before .before .not-used in
+    let if1 = c .before .before .before .before .if1 in
+    let parameters = c .before .before .before .parameters in
+    simp (sym (not-used .ensures) ∙ if1 .left, sym (parameters .ensures), le-ltb _ _ (c .before .before .if2 .left), le-leb _ _ (c .before .if3 .taken), c .point .ensures)
 
 returns-4 : tie.Need-returns-4
 unfolding whileSelected
-returns-4 c = simp (sym (c .before .before .before .before .before .not-used .ensures) ∙ c .before .before .before .before .if1 .left, sym (c .before .before .before .parameters .ensures), le-ltb _ _ (c .before .before .if2 .left), lt-leb _ _ (c .before .if3 .left), le-leb _ _ (c .if4 .taken))
+returns-4 c =
+    let not-used = c .before .before .before .before .before .not-used in
+    let if1 = c .before .before .before .before .if1 in
+    let parameters = c .before .before .before .parameters in
+    simp (sym (not-used .ensures) ∙ if1 .left, sym (parameters .ensures), le-ltb _ _ (c .before .before .if2 .left), lt-leb _ _ (c .before .if3 .left), le-leb _ _ (c .if4 .taken))
 
 bytes-read-requires : tie.Need-bytes-read-requires
 bytes-read-requires c κs = search needs
@@ -39,7 +47,13 @@ read-requires c κs = search needs
 
 returns-5 : tie.Need-returns-5
 unfolding whileSelected
-returns-5 c = simp (sym (c .before .before .before .before .before .before .before .not-used .ensures) ∙ c .before .before .before .before .before .before .if1 .left, sym (c .before .before .before .before .before .parameters .ensures), le-ltb _ _ (c .before .before .before .before .if2 .left), lt-leb _ _ (c .before .before .before .if3 .left), lt-leb _ _ (c .before .before .if4 .left), c .read .ensures, c .before .bytes-read .ensures)
+returns-5 c =
+    let not-used = c .before .before .before .before .before .before .before .not-used in
+    let if1 = c .before .before .before .before .before .before .if1 in
+    let parameters = c .before .before .before .before .before .parameters in
+    let if2 = c .before .before .before .before .if2 in
+    let if3 = c .before .before .before .if3 in
+    simp (sym (not-used .ensures) ∙ if1 .left, sym (parameters .ensures), le-ltb _ _ (if2 .left), lt-leb _ _ (if3 .left), lt-leb _ _ (c .before .before .if4 .left), c .read .ensures, c .before .bytes-read .ensures)
 
 pub while-selected-spec : {M : Type 1} → statement M
 while-selected-spec =

@@ -55,16 +55,27 @@ same-length : tie.Need-same-length
 same-length c = search needs
 
 returns : tie.Need-returns
-returns c = of-reply (c .before .before .before .before .before .before .before .before .before .before .before .args .out .now) _ _ (ap replyOf (c .before .before .before .before .gather .ensures ∙ ap (λ (r : List ℕ). gathers (readAt (c .before .before .before .before .before .before .before .before .before .before .before .args .h)) noneGathered (askedFrom r 0 atFirst)) (commands-lent (c .before .before .before .before .before .before .before .before .before .before .before .args .packet .now))) ∙ whole-reply (c .before .before .before .before .before .before .before .before .before .before .before .args .h) (c .before .before .before .before .before .before .before .before .before .before .before .args .packet .now) (sym (c .before .before .before .before .before .before .before .before .judge .ensures) ∙ c .before .before .before .before .before .before .enum-told .given .1)) (c .before .before .send .ensures)
+returns c =
+    let args = c .before .before .before .before .before .before .before .before .before .before .before .args in
+    let judge = c .before .before .before .before .before .before .before .before .judge in
+    let enum-told = c .before .before .before .before .before .before .enum-told in
+    let gather = c .before .before .before .before .gather in
+    of-reply (args .out .now) _ _ (ap replyOf (gather .ensures ∙ ap (λ (r : List ℕ). gathers (readAt (args .h)) noneGathered (askedFrom r 0 atFirst)) (commands-lent (args .packet .now))) ∙ whole-reply (args .h) (args .packet .now) (sym (judge .ensures) ∙ enum-told .given .1)) (c .before .before .send .ensures)
 
 same-length-2 : tie.Need-same-length-2
 same-length-2 c = search needs
 
 returns-2 : tie.Need-returns-2
-returns-2 c = of-reply (c .before .before .before .before .before .before .before .before .before .before .args .out .now) _ _ (failed-reply (c .before .before .before .before .before .before .before .before .before .before .args .h) (c .before .before .before .before .before .before .before .before .before .before .args .packet .now) (c .before .before .before .before .before .c .given .0 .0) (sym (c .before .before .before .before .before .before .before .judge .ensures) ∙ c .before .before .before .before .before .c .given .1)) (c .before .before .send-code .ensures)
+returns-2 c =
+    let args = c .before .before .before .before .before .before .before .before .before .before .args in
+    let judge = c .before .before .before .before .before .before .before .judge in
+    let code = c .before .before .before .before .before .c in
+    of-reply (args .out .now) _ _ (failed-reply (args .h) (args .packet .now) (code .given .0 .0) (sym (judge .ensures) ∙ code .given .1)) (c .before .before .send-code .ensures)
 
 returns-3 : tie.Need-returns-3
-returns-3 c = of-reply (c .before .before .before .before .before .args .out .now) _ _ (none-reply (c .before .before .before .before .before .args .h) (c .before .before .before .before .before .args .packet .now) (sym (c .before .before .judge .ensures) ∙ c .enum-told2 .given .1)) (none-replied (c .before .before .before .before .before .args .out .now), none-put (c .before .before .before .before .before .args .out .now))
+returns-3 c =
+    let args = c .before .before .before .before .before .args in
+    of-reply (args .out .now) _ _ (none-reply (args .h) (args .packet .now) (sym (c .before .before .judge .ensures) ∙ c .enum-told2 .given .1)) (none-replied (args .out .now), none-put (args .out .now))
 
 pub answer-spec : {M : Type 1} → statement M
 answer-spec =

@@ -59,22 +59,46 @@ here c =
     (take-all (length cs - (d .loop .at + 1)) (drop (d .loop .at + 1) cs) (omega (arith, length-drop (d .loop .at + 1) cs)))
 
 returns : tie.Need-returns Inv-loop μ-loop
-returns c = (let cs = c .before .before .before .before .before .before .before .before .args .commands .now in ap (λ (w : Walked). record { ending = w .ending; gathered = w .gathered }) (here (c .before .before)) ∙ sym (turn-over (readAt (c .before .before .before .before .before .before .before .before .args .h)) cs (c .before .before .before .before .before .before .loop .at) (omega arith) (c .before .before .before .before .before .before .loop .l) (c .before .before .before .before .before .before .loop .g) (ap (λ (w : Walked). w .over) (sym (here (c .before .before))) ∙ c .if1 .taken)) ∙ c .before .before .before .before .before .before .loop .inv)
+returns c =
+    let args = c .before .before .before .before .before .before .before .before .args in
+    let loop = c .before .before .before .before .before .before .loop in
+    let turn = c .before .before in
+    let cs = args .commands .now in
+    ap (λ (w : Walked). record { ending = w .ending; gathered = w .gathered }) (here turn)
+    ∙ sym (turn-over (readAt (args .h)) cs (loop .at) (omega arith) (loop .l) (loop .g) (ap (λ (w : Walked). w .over) (sym (here turn)) ∙ c .if1 .taken))
+    ∙ loop .inv
 
 parameters-requires : tie.Need-parameters-requires Inv-loop μ-loop
 parameters-requires c κs = search needs
 
 add-at : tie.Need-add-at Inv-loop μ-loop
-add-at c = omega (arith, c .parameters .ensures, parameters-most (getD (c .before .before .before .before .before .before .before .before .before .before .args .commands .now) (c .before .before .before .before .before .before .before .before .loop .at) 0), c .before .before .before .before .before .before .before .before .before .before .good)
+add-at c =
+    let args = c .before .before .before .before .before .before .before .before .before .before .args in
+    let good = c .before .before .before .before .before .before .before .before .before .before .good in
+    let loop = c .before .before .before .before .before .before .before .before .loop in
+    omega (arith, c .parameters .ensures, parameters-most (getD (args .commands .now) (loop .at) 0), good)
 
 loop-less : tie.Need-loop-less Inv-loop μ-loop
 loop-less c = omega arith
 
 loop-again : tie.Need-loop-again Inv-loop μ-loop
-loop-again c = (let cs = c .before .before .before .before .before .before .before .before .before .before .args .commands .now in let n = c .parameters .result in ap (λ (w : Walked). gathers (readAt (c .before .before .before .before .before .before .before .before .before .before .args .h)) (w .gathered) (askedFrom (drop (c .before .before .before .before .before .before .before .before .loop .at + 1 + n) cs) 0 (w .line))) (here (c .before .before .before .before)) ∙ ap (λ (n : ℕ). let w = walked (readAt (c .before .before .before .before .before .before .before .before .before .before .args .h)) (c .before .before .before .before .before .before .before .before .loop .l) (c .before .before .before .before .before .before .before .before .loop .g) (commandOf (c .before .before .before .before .before .before .before .before .loop .l) (getD cs (c .before .before .before .before .before .before .before .before .loop .at) 0) (drop (c .before .before .before .before .before .before .before .before .loop .at + 1) cs)) in gathers (readAt (c .before .before .before .before .before .before .before .before .before .before .args .h)) (w .gathered) (askedFrom (drop (c .before .before .before .before .before .before .before .before .loop .at + 1 + n) cs) 0 (w .line))) (c .parameters .ensures) ∙ sym (turn-on (readAt (c .before .before .before .before .before .before .before .before .before .before .args .h)) cs (c .before .before .before .before .before .before .before .before .loop .at) (omega arith) (c .before .before .before .before .before .before .before .before .loop .l) (c .before .before .before .before .before .before .before .before .loop .g) (ap (λ (w : Walked). w .over) (sym (here (c .before .before .before .before))) ∙ c .before .before .if1 .left)) ∙ c .before .before .before .before .before .before .before .before .loop .inv)
+loop-again c =
+    let args = c .before .before .before .before .before .before .before .before .before .before .args in
+    let loop = c .before .before .before .before .before .before .before .before .loop in
+    let turn = c .before .before .before .before in
+    let cs = args .commands .now in
+    let n = c .parameters .result in
+    ap (λ (w : Walked). gathers (readAt (args .h)) (w .gathered) (askedFrom (drop (loop .at + 1 + n) cs) 0 (w .line))) (here turn)
+    ∙ ap (λ (n : ℕ). let w = walked (readAt (args .h)) (loop .l) (loop .g) (commandOf (loop .l) (getD cs (loop .at) 0) (drop (loop .at + 1) cs)) in gathers (readAt (args .h)) (w .gathered) (askedFrom (drop (loop .at + 1 + n) cs) 0 (w .line))) (c .parameters .ensures)
+    ∙ sym (turn-on (readAt (args .h)) cs (loop .at) (omega arith) (loop .l) (loop .g) (ap (λ (w : Walked). w .over) (sym (here turn)) ∙ c .before .before .if1 .left))
+    ∙ loop .inv
 
 returns-2 : tie.Need-returns-2 Inv-loop μ-loop
-returns-2 c = sym (turn-last (readAt (c .before .before .before .args .h)) (c .before .before .before .args .commands .now) (c .before .loop .at) (c .before .loop .l) (c .before .loop .g) (omega arith)) ∙ c .before .loop .inv
+returns-2 c =
+    let args = c .before .before .before .args in
+    let loop = c .before .loop in
+    sym (turn-last (readAt (args .h)) (args .commands .now) (loop .at) (loop .l) (loop .g) (omega arith))
+    ∙ loop .inv
 
 pub gather-spec : {M : Type 1} → statement M
 gather-spec =

@@ -62,7 +62,15 @@ loop-less : tie.Need-loop-less Inv-loop μ-loop
 loop-less c = search needs
 
 loop-again : tie.Need-loop-again Inv-loop μ-loop
-loop-again c = (omega arith, (search needs) ∙ c .before .before .before .before .before .before .before .before .loop .inv .1, registers-more (c .before .before .before .before .before .before .before .before .before .before .args .out .now) (c .before .before .before .before .before .before .before .before .loop .out) (c .before .before .put-at .last .0) (c .before .before .before .before .before .before .before .before .before .before .args .values .now) (c .before .before .before .before .before .before .before .before .loop .k) (omega arith) (c .before .before .before .before .before .before .before .before .before .before .pre .1) (c .before .before .before .before .before .before .before .before .loop .inv .1) (c .before .before .before .before .before .before .before .before .loop .inv .2) (written (c .before .before)))
+loop-again c =
+    let args = c .before .before .before .before .before .before .before .before .before .before .args in
+    let pre = c .before .before .before .before .before .before .before .before .before .before .pre in
+    let loop = c .before .before .before .before .before .before .before .before .loop in (
+      omega arith,
+      (search needs)
+          ∙ loop .inv .1,
+      registers-more (args .out .now) (loop .out) (c .before .before .put-at .last .0) (args .values .now) (loop .k) (omega arith) (pre .1) (loop .inv .1) (loop .inv .2) (written (c .before .before)),
+    )
 
 same-length : tie.Need-same-length Inv-loop μ-loop
 same-length c = c .before .loop .inv .1

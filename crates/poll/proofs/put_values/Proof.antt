@@ -51,7 +51,17 @@ same-length : tie.Need-same-length
 same-length c = search needs
 
 returns : tie.Need-returns
-returns c = (let b = c .before .before .before .before .before .before .before .before .before .before .before .before .before .before .before .before .before .args .out .now in let vs = c .before .before .before .before .before .before .before .before .before .before .before .before .before .before .before .before .before .args .values .now in let room = c .before .before .before .before .before .before .before .before .before .before .before .before .before .before .before .before .before .pre .1 in let e = front-is b vs room _ _ (c .before .before .before .before .before .before .before .before .before .before .before .before .before .put-at .ensures) (c .before .before .before .before .before .before .before .before .before .put-registers .ensures) in reply-is b vs room _ _ _ e (c .before .before .before .before .before .sum-of .ensures ∙ ap checksum (front-summed b vs room _ e)) (c .before .before .put-at2 .ensures))
+returns c =
+    let args = c .before .before .before .before .before .before .before .before .before .before .before .before .before .before .before .before .before .args in
+    let pre = c .before .before .before .before .before .before .before .before .before .before .before .before .before .before .before .before .before .pre in
+    let put-at = c .before .before .before .before .before .before .before .before .before .before .before .before .before .put-at in
+    let put-registers = c .before .before .before .before .before .before .before .before .before .put-registers in
+    let sum-of = c .before .before .before .before .before .sum-of in
+    let b = args .out .now in
+    let vs = args .values .now in
+    let room = pre .1 in
+    let e = front-is b vs room _ _ (put-at .ensures) (put-registers .ensures) in
+    reply-is b vs room _ _ _ e (sum-of .ensures ∙ ap checksum (front-summed b vs room _ e)) (c .before .before .put-at2 .ensures)
 
 pub put-values-spec : {M : Type 1} → statement M
 put-values-spec =

@@ -46,13 +46,26 @@ loop-less : tie.Need-loop-less Inv-loop μ-loop
 loop-less c = search needs
 
 loop-again : tie.Need-loop-again Inv-loop μ-loop
-loop-again c = (omega (arith, c .before .before .before .before .before .before .loop .inv .0), ap (readInto (readAt (c .before .before .before .before .before .before .before .args .h)) (registersFrom (c .before .before .before .before .before .before .loop .at + 3) (c .before .before .before .before .before .before .loop .left - 1))) (rw (toZ-ofZ (fits (c .before))) at (c .keep .ensures)) ∙ sym (read-one (readAt (c .before .before .before .before .before .before .before .args .h)) (c .before .before .before .before .before .before .loop .got) (c .before .before .before .before .before .before .loop .at) (c .before .before .before .before .before .before .loop .left) (omega arith) (c .before .before .v .given .0 .0) (sym (c .before .before .before .before .look .ensures) ∙ c .before .before .v .given .1)) ∙ c .before .before .before .before .before .before .loop .inv .1)
+loop-again c =
+    let args = c .before .before .before .before .before .before .before .args in
+    let loop = c .before .before .before .before .before .before .loop in
+    let look = c .before .before .before .before .look in
+    let value = c .before .before .v in (
+      omega (arith, loop .inv .0),
+      ap (readInto (readAt (args .h)) (registersFrom (loop .at + 3) (loop .left - 1))) (rw (toZ-ofZ (fits (c .before))) at (c .keep .ensures))
+          ∙ sym (read-one (readAt (args .h)) (loop .got) (loop .at) (loop .left) (omega arith) (value .given .0 .0) (sym (look .ensures) ∙ value .given .1))
+          ∙ loop .inv .1,
+    )
 
 enum-told : tie.Need-enum-told Inv-loop μ-loop
 enum-told c = search needs
 
 returns : tie.Need-returns Inv-loop μ-loop
-returns c = sym (read-none (readAt (c .before .before .before .before .before .args .h)) (c .before .before .before .before .loop .got) (c .before .before .before .before .loop .at) (c .before .before .before .before .loop .left) (omega arith) (c .enum-told .given .0 .0) (sym (c .before .before .look .ensures) ∙ c .enum-told .given .1)) ∙ c .before .before .before .before .loop .inv .1
+returns c =
+    let args = c .before .before .before .before .before .args in
+    let loop = c .before .before .before .before .loop in
+    sym (read-none (readAt (args .h)) (loop .got) (loop .at) (loop .left) (omega arith) (c .enum-told .given .0 .0) (sym (c .before .before .look .ensures) ∙ c .enum-told .given .1))
+    ∙ loop .inv .1
 
 returns-2 : tie.Need-returns-2 Inv-loop μ-loop
 returns-2 c = sym (read-all (readAt (c .before .before .args .h)) (c .before .loop .got) (c .before .loop .at) (c .before .loop .left) (omega arith)) ∙ c .before .loop .inv .1

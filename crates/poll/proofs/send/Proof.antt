@@ -26,16 +26,24 @@ same-length : tie.Need-same-length
 same-length c = search needs
 
 returns : tie.Need-returns
-returns c = of-reply (c .before .before .before .before .before .before .before .before .args .out .now) _ _ (sym (ap (λ (e : Ending). replyIf e (c .before .before .before .before .before .before .before .before .args .g .gathered)) (c .before .before .before .before .enum-told .given .1))) (c .before .before .send-values .ensures)
+returns c =
+    let args = c .before .before .before .before .before .before .before .before .args in
+    let enum-told = c .before .before .before .before .enum-told in
+    of-reply (args .out .now) _ _ (sym (ap (λ (e : Ending). replyIf e (args .g .gathered)) (enum-told .given .1))) (c .before .before .send-values .ensures)
 
 same-length-2 : tie.Need-same-length-2
 same-length-2 c = search needs
 
 returns-2 : tie.Need-returns-2
-returns-2 c = of-reply (c .before .before .before .before .before .before .before .before .before .args .out .now) _ _ (sym (ap (λ (e : Ending). replyIf e (c .before .before .before .before .before .before .before .before .before .args .g .gathered)) (c .before .before .before .before .before .ending .given .1))) (c .before .before .send-code .ensures)
+returns-2 c =
+    let args = c .before .before .before .before .before .before .before .before .before .args in
+    let ending = c .before .before .before .before .before .ending in
+    of-reply (args .out .now) _ _ (sym (ap (λ (e : Ending). replyIf e (args .g .gathered)) (ending .given .1))) (c .before .before .send-code .ensures)
 
 returns-3 : tie.Need-returns-3
-returns-3 c = of-reply (c .before .before .before .before .args .out .now) _ _ (sym (ap (λ (e : Ending). replyIf e (c .before .before .before .before .args .g .gathered)) (c .enum-told2 .given .1))) (none-replied (c .before .before .before .before .args .out .now), none-put (c .before .before .before .before .args .out .now))
+returns-3 c =
+    let args = c .before .before .before .before .args in
+    of-reply (args .out .now) _ _ (sym (ap (λ (e : Ending). replyIf e (args .g .gathered)) (c .enum-told2 .given .1))) (none-replied (args .out .now), none-put (args .out .now))
 
 pub send-spec : {M : Type 1} → statement M
 send-spec =

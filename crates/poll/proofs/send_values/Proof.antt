@@ -15,7 +15,10 @@ same-length : tie.Need-same-length
 same-length c = search needs
 
 returns : tie.Need-returns
-returns c = of-reply (c .before .before .before .before .before .before .before .args .out .now) _ _ (sym (too-many (c .before .before .before .before .before .before .before .args .g) (c .before .before .before .before .if1 .taken))) (c .before .before .send-code .ensures)
+returns c =
+    let args = c .before .before .before .before .before .before .before .args in
+    let if1 = c .before .before .before .before .if1 in
+    of-reply (args .out .now) _ _ (sym (too-many (args .g) (if1 .taken))) (c .before .before .send-code .ensures)
 
 send-code-requires-2 : tie.Need-send-code-requires-2
 send-code-requires-2 c κs = search needs
@@ -24,7 +27,11 @@ same-length-2 : tie.Need-same-length-2
 same-length-2 c = search needs
 
 returns-2 : tie.Need-returns-2
-returns-2 c = of-reply (c .before .before .before .before .before .before .before .before .args .out .now) _ _ (sym (no-register (c .before .before .before .before .before .before .before .before .args .g) (c .before .before .before .before .before .if1 .left) (c .before .before .before .before .if2 .taken))) (c .before .before .send-code2 .ensures)
+returns-2 c =
+    let args = c .before .before .before .before .before .before .before .before .args in
+    let if1 = c .before .before .before .before .before .if1 in
+    let if2 = c .before .before .before .before .if2 in
+    of-reply (args .out .now) _ _ (sym (no-register (args .g) (if1 .left) (if2 .taken))) (c .before .before .send-code2 .ensures)
 
 mul-length : tie.Need-mul-length
 mul-length c = search needs
@@ -33,22 +40,38 @@ add-length : tie.Need-add-length
 add-length c = search needs
 
 returns-3 : tie.Need-returns-3
-returns-3 c = not-sent (c .before .before .before .before .before .args .g) (c .before .before .before .before .before .args .out .now) (c .before .before .before .before .before .args .out .now) (c .before .before .if1 .left) (c .before .if2 .left) (search needs) (c .if3 .taken)
+returns-3 c =
+    let args = c .before .before .before .before .before .args in
+    not-sent (args .g) (args .out .now) (args .out .now) (c .before .before .if1 .left) (c .before .if2 .left) (search needs) (c .if3 .taken)
 
 array-share-prefix-values : tie.Need-array-share-prefix-values
 array-share-prefix-values c = (let n : length (c .before .before .before .before .before .args .g .values) ≡ 84 = search needs in omega (arith, n, c .before .before .if1 .left))
 
 slice-aggregate-put-values : tie.Need-slice-aggregate-put-values
-slice-aggregate-put-values c = (let n : length (c .before .before .before .before .before .before .args .g .values) ≡ 84 = search needs in sym (length-take-le (c .before .before .before .before .before .before .args .g .count) (c .before .before .before .before .before .before .args .g .values) (omega (arith, n, c .before .before .before .if1 .left))))
+slice-aggregate-put-values c =
+    let args = c .before .before .before .before .before .before .args in
+    let if1 = c .before .before .before .if1 in
+    let n : length (args .g .values) ≡ 84 = search needs in
+    sym (length-take-le (args .g .count) (args .g .values) (omega (arith, n, if1 .left)))
 
 put-values-requires : tie.Need-put-values-requires
-put-values-requires c κs = (let n : length (c .before .before .before .before .before .before .before .args .g .values) ≡ 84 = search needs in let t = length-take-le (c .before .before .before .before .before .before .before .args .g .count) (c .before .before .before .before .before .before .before .args .g .values) (omega (arith, n, c .before .before .before .before .if1 .left)) in (omega (arith, t, c .before .before .before .before .if1 .left), omega (arith, t, c .before .before .if3 .left)))
+put-values-requires c κs =
+    let args = c .before .before .before .before .before .before .before .args in
+    let if1 = c .before .before .before .before .if1 in
+    let n : length (args .g .values) ≡ 84 = search needs in
+    let t = length-take-le (args .g .count) (args .g .values) (omega (arith, n, if1 .left)) in
+    (omega (arith, t, if1 .left), omega (arith, t, c .before .before .if3 .left))
 
 same-length-3 : tie.Need-same-length-3
 same-length-3 c = search needs
 
 returns-4 : tie.Need-returns-4
-returns-4 c = sent (c .before .before .before .before .before .before .before .before .before .before .args .g) (c .before .before .before .before .before .before .before .before .before .before .args .out .now) _ (c .before .before .before .before .before .before .before .if1 .left) (c .before .before .before .before .before .before .if2 .left) (search needs) (c .before .before .before .before .before .if3 .left) (c .before .before .put-values .ensures)
+returns-4 c =
+    let args = c .before .before .before .before .before .before .before .before .before .before .args in
+    let if1 = c .before .before .before .before .before .before .before .if1 in
+    let if2 = c .before .before .before .before .before .before .if2 in
+    let if3 = c .before .before .before .before .before .if3 in
+    sent (args .g) (args .out .now) _ (if1 .left) (if2 .left) (search needs) (if3 .left) (c .before .before .put-values .ensures)
 
 pub send-values-spec : {M : Type 1} → statement M
 send-values-spec =

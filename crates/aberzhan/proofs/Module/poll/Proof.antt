@@ -24,7 +24,22 @@ same-length : tie.Need-same-length
 same-length c = search needs
 
 returns : tie.Need-returns
-returns c = (let m = c .before .before .before .before .before .before .before .before .before .before .args .self in let p = c .before .before .before .before .before .before .before .before .before .before .args .packet .now in let b = c .before .before .before .before .before .before .before .before .before .before .args .out .now in let e = now-held m p (c .before .before .before .before .before .before .copy .result) (c .before .before .before .before .before .before .copy .ensures) in (c .poll-of .ensures ∙ ap (polled m (c .before .before .before .before .before .before .copy .result .held)) (c .before .before .before .answer .ensures .0) ∙ ap (λ (h : Held). polled m h (repliedIn (length b) (replyFrom h p))) e ∙ poll-is m p (length b), c .before .before .before .answer .ensures .1 ∙ ap (λ (h : Held). putWithin b 0 (replyBytes (replyFrom h p))) e ∙ buffer-is m p b))
+returns c =
+    let args = c .before .before .before .before .before .before .before .before .before .before .args in
+    let copy = c .before .before .before .before .before .before .copy in
+    let answer = c .before .before .before .answer in
+    let m = args .self in
+    let p = args .packet .now in
+    let b = args .out .now in
+    let e = now-held m p (copy .result) (copy .ensures) in (
+      c .poll-of .ensures
+          ∙ ap (polled m (copy .result .held)) (answer .ensures .0)
+          ∙ ap (λ (h : Held). polled m h (repliedIn (length b) (replyFrom h p))) e
+          ∙ poll-is m p (length b),
+      answer .ensures .1
+          ∙ ap (λ (h : Held). putWithin b 0 (replyBytes (replyFrom h p))) e
+          ∙ buffer-is m p b,
+    )
 
 pub poll-spec : {M : Type 1} → statement M
 poll-spec = tie.close (tie.spec copy-requires answer-requires poll-of-requires same-length returns)
