@@ -1,9 +1,10 @@
 -- A poll counts as its hold and its reads.
-use Prim.Native.Nat.{ℕ, _+_, _*_}
+use Prim.Native.Nat.{ℕ, _+_, _*_, _≤_}
 use mathlib.Core.Path.{_≡_, refl, sym, ap, subst, _∙_}
 use mathlib.Core.Bool.{Bool, true, false, cond, _&&_, and-false, true≢false}
 use mathlib.Core.List.{List, [], _∷_, map}
 use native.Mathlib.Nat.{zero-add}
+use native.Mathlib.Omega.{arith}
 use lib.Dec.{eqb, leb, ltb}
 use lib.IntN.{ℤ, pos}
 use lib.ListN.{length}
@@ -21,13 +22,13 @@ use Rattle.port.specs.Reading.{look}
 use Rattle.packet.specs.declared.Ending.{Ending}
 use Rattle.packet.specs.declared.Ending.the-variants.{Whole, Fails, Unanswered}
 use Rattle.packet.specs.Commands.{askedBy}
-use Rattle.packet.specs.Replies.{Reply, code, values, joined, readAll, sending, replied, replyTo, valuesReply, replyBytes, sends}
+use Rattle.packet.specs.Replies.{Reply, none, code, values, joined, readAll, sending, replied, replyTo, valuesReply, replyBytes, sends}
 use Rattle.poll.specs.Polls.{readAt, replyFrom}
 use Rattle.aberzhan.specs.declared.Module.{Module}
 use Rattle.aberzhan.specs.declared.Polled.{Polled}
 use Rattle.aberzhan.specs.Ports.{aberzhan}
 use Rattle.aberzhan.specs.Module.{withHeld, portAt, holdOf, readOf}
-use Rattle.aberzhan.specs.Polling.{heldNow, replyOf, afterReply, pollOf, pollBuffer}
+use Rattle.aberzhan.specs.Polling.{heldNow, pollReply, afterReply, pollOf, pollBuffer}
 use Rattle.aberzhan.specs.Calls.{Call, callHold, stepOf, returned, program}
 use Rattle.aberzhan.specs.Turns.{sentBy, readCall, pollCalls}
 use Rattle.aberzhan.specs.Counting.{valuesRead, PollCounts}
@@ -164,22 +165,32 @@ module _ (m : Module) (packet buffer : List ℕ) where
       let l = program (pollCalls sent) m in
       (l .refusals ≡ 0) × (cond {A = Module} fits (afterReply r m) m ≡ l .end)
       × ((a : ℕ) (more : List ℕ) → sent ≡ a ∷ more → (fits ≡ true) × (replyBytes r ≡ valuesReply (valuesRead (on (l .heard) port1))))
+      × (sent ≡ [] → cond fits (length (replyBytes r)) 0 ≤ 1)
 
   -- nothing is sent
-  not-counted : (r : Reply) (fits : Bool) → cond {A = Module} fits (afterReply r m) m ≡ m → Counted [] r fits
-  not-counted r fits e = (refl, e, λ a more q. absurd (nil-cons a more q))
+  not-counted : (r : Reply) (fits : Bool) → cond {A = Module} fits (afterReply r m) m ≡ m → cond fits (length (replyBytes r)) 0 ≤ 1 → Counted [] r fits
+  not-counted r fits e n = (refl, e, λ a more q. absurd (nil-cons a more q), λ q. n)
     where
       nil-cons : (a : ℕ) (more : List ℕ) → [] ≡ a ∷ more → ⊥
       nil-cons a more q = subst Empty q tt
+
+  -- a reply that sends none has one byte at most
+  short-reply : (r : Reply) → sends r ≡ false → length (replyBytes r) ≤ 1
+  unfolding replyBytes
+  short-reply none e = omega arith
+  short-reply (code n) e = omega arith
+  short-reply (values vs) e = absurd (true≢false e)
 
   -- registers are sent
   counted : (a : ℕ) (more : List ℕ) (vs : List ℤ) → readAll (readAt (heldNow m)) (a ∷ more) ≡ accepted vs → Counted (a ∷ more) (values vs) true
   unfolding replyBytes
   counted a more vs e =
-      let q = sent-run m a more vs e in (
+      let q = sent-run m a more vs e in
+      let heard = ap (λ (l : Log aberzhan Module). valuesRead (on (l .heard) port1)) q ∙ values-heard (held m) (a ∷ more) vs (read-last m a more vs e) in (
         ap (λ (l : Log aberzhan Module). l .refusals) q,
         ap (λ (h : Held). withHeld port1 h m) (now-by m true (has-closed m a more vs e)) ∙ sym (ap (λ (l : Log aberzhan Module). l .end) q),
-        λ b rest p. (refl, ap valuesReply (sym (ap (λ (l : Log aberzhan Module). valuesRead (on (l .heard) port1)) q ∙ values-heard (held m) (a ∷ more) vs (read-last m a more vs e)))),
+        λ b rest p. (refl, ap valuesReply (sym heard)),
+        λ p. absurd (subst Empty (sym p) tt),
       )
 
   all-counted : (rs : List ℕ) (r : Reply) → Sending (readAll (readAt (heldNow m)) rs) r → Counted rs r true
@@ -189,39 +200,48 @@ module _ (m : Module) (packet buffer : List ℕ) where
   abbrev reply : Reply
   reply = replied given (askedBy packet .ending)
 
-  reply-is : replyOf m packet ≡ reply
-  unfolding replyOf replyFrom replyTo
+  reply-is : pollReply m packet ≡ reply
+  unfolding pollReply replyFrom replyTo
   reply-is = refl
 
   counts-by : (s f : Bool) → sends reply ≡ s → Counted (cond (s && f) regs []) reply f
   counts-by true true e = all-counted regs reply (sends-by given (askedBy packet .ending) e)
-  counts-by s false e = rw (and-false s) (not-counted reply false refl)
-  counts-by false true e = not-counted reply true (ap (λ (b : Bool). cond {A = Module} b (withHeld port1 (heldNow m) m) m) e)
+  counts-by s false e = rw (and-false s) (not-counted reply false refl (omega arith))
+  counts-by false true e = not-counted reply true (ap (λ (b : Bool). cond {A = Module} b (withHeld port1 (heldNow m) m) m) e) (short-reply reply e)
 
   abbrev fits : Bool
-  fits = leb (length (replyBytes (replyOf m packet))) (length buffer)
+  fits = leb (length (replyBytes (pollReply m packet))) (length buffer)
 
   abbrev sent : List ℕ
   sent = sentBy m packet (length buffer)
 
-  counts : Counted sent (replyOf m packet) fits
+  counts : Counted sent (pollReply m packet) fits
   unfolding sentBy
   counts = subst (λ (r : Reply). let f = leb (length (replyBytes r)) (length buffer) in Counted (cond (sends r && f) regs []) r f) (sym reply-is)
       (counts-by (sends reply) (leb (length (replyBytes reply)) (length buffer)) refl)
 
-  after-by : pollOf m packet (length buffer) .after ≡ cond {A = Module} fits (afterReply (replyOf m packet) m) m
+  after-by : pollOf m packet (length buffer) .after ≡ cond {A = Module} fits (afterReply (pollReply m packet) m) m
   unfolding pollOf
   after-by = go fits
     where
-      go : (f : Bool) → cond {A = Polled} f (record { answer = Done; length = length (replyBytes (replyOf m packet)); after = afterReply (replyOf m packet) m }) (record { answer = Refused 21; length = 0; after = m }) .after
-          ≡ cond {A = Module} f (afterReply (replyOf m packet) m) m
+      go : (f : Bool) → cond {A = Polled} f (record { answer = Done; length = length (replyBytes (pollReply m packet)); after = afterReply (pollReply m packet) m }) (record { answer = Refused 21; length = 0; after = m }) .after
+          ≡ cond {A = Module} f (afterReply (pollReply m packet) m) m
       go true = refl
       go false = refl
 
-  sent-bytes : (bytes : List ℕ) → fits ≡ true → replyBytes (replyOf m packet) ≡ bytes → pollBuffer m packet buffer ≡ put buffer 0 bytes
+  length-by : pollOf m packet (length buffer) .length ≡ cond fits (length (replyBytes (pollReply m packet))) 0
+  unfolding pollOf
+  length-by = go fits
+    where
+      go : (f : Bool) → cond {A = Polled} f (record { answer = Done; length = length (replyBytes (pollReply m packet)); after = afterReply (pollReply m packet) m }) (record { answer = Refused 21; length = 0; after = m }) .length
+          ≡ cond f (length (replyBytes (pollReply m packet))) 0
+      go true = refl
+      go false = refl
+
+  sent-bytes : (bytes : List ℕ) → fits ≡ true → replyBytes (pollReply m packet) ≡ bytes → pollBuffer m packet buffer ≡ put buffer 0 bytes
   unfolding pollBuffer
   sent-bytes bytes f e =
-      put-fits buffer (replyBytes (replyOf m packet)) 0 (leb-true (0 + length (replyBytes (replyOf m packet))) (length buffer) (ap (λ (n : ℕ). leb n (length buffer)) (zero-add _) ∙ f))
+      put-fits buffer (replyBytes (pollReply m packet)) 0 (leb-true (0 + length (replyBytes (pollReply m packet))) (length buffer) (ap (λ (n : ℕ). leb n (length buffer)) (zero-add _) ∙ f))
       ∙ ap (put buffer 0) e
 
   pub poll-counts : PollCounts m packet buffer
@@ -231,5 +251,6 @@ module _ (m : Module) (packet buffer : List ℕ) where
         none-refused = k .0;
         same-module = after-by ∙ k .1;
         same-values = λ a more e. let v = k .2 a more e in sent-bytes _ (v .0) (v .1);
+        no-data = λ e. subst (λ (n : ℕ). n ≤ 1) (sym length-by) (k .3 e);
         else-as-it-came = λ e. after-by ∙ k .1 ∙ ap (λ (r : List ℕ). program (pollCalls r) m .end) e;
       }

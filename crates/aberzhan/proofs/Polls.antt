@@ -16,7 +16,7 @@ use Rattle.packet.specs.Replies.{Reply, replyBytes}
 use Rattle.poll.specs.Polls.{replyFrom, repliedIn}
 use Rattle.aberzhan.specs.declared.Module.{Module}
 use Rattle.aberzhan.specs.declared.Polled.{Polled}
-use Rattle.aberzhan.specs.Polling.{heldNow, replyOf, afterReply, pollOf, pollBuffer}
+use Rattle.aberzhan.specs.Polling.{heldNow, pollReply, afterReply, pollOf, pollBuffer}
 use Rattle.aberzhan.specs.Inside.{pollAnswer, polled}
 
 held-by : (q : OrRefusal Held) → copying q .held ≡ orAsBefore q nothingHeld
@@ -35,9 +35,9 @@ module _ (m : Module) (packet : List ℕ) where
   polled-by r false room e = rw e refl
 
   pub poll-is : (room : ℕ) → polled m (heldNow m) (repliedIn room (replyFrom (heldNow m) packet)) ≡ pollOf m packet room
-  unfolding pollOf replyOf
+  unfolding pollOf pollReply
   poll-is room = let r = replyFrom (heldNow m) packet in polled-by r (leb (length (replyBytes r)) room) room refl
 
   pub buffer-is : (b : List ℕ) → putWithin b 0 (replyBytes (replyFrom (heldNow m) packet)) ≡ pollBuffer m packet b
-  unfolding pollBuffer replyOf
+  unfolding pollBuffer pollReply
   buffer-is b = refl

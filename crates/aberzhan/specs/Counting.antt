@@ -1,5 +1,5 @@
 -- What it is that a poll counts as its hold and its reads: they are not refused, leave the module that it leaves, and return what it sends.
-use Prim.Native.Nat.{ℕ}
+use Prim.Native.Nat.{ℕ, _≤_}
 use mathlib.Core.Path.{_≡_}
 use mathlib.Core.List.{List, [], _∷_}
 use lib.IntN.{ℤ}
@@ -33,5 +33,8 @@ module _ (m : Module) (packet buffer : List ℕ) where
   pub record PollCounts : Type 0 where
     pub none-refused : themselves .refusals ≡ 0
     pub same-module : pollOf m packet (length buffer) .after ≡ themselves .end
-    pub same-values : (a : ℕ) (more : List ℕ) → sent ≡ a ∷ more → pollBuffer m packet buffer ≡ put buffer 0 (valuesReply (valuesRead (on (themselves .heard) port1)))
+    pub same-values : (a : ℕ) (more : List ℕ) → sent ≡ a ∷ more →
+        pollBuffer m packet buffer ≡ put buffer 0 (valuesReply (valuesRead (on (themselves .heard) port1)))
+    -- and else there are no data in the reply, of one byte at most, and the module is as it came
+    pub no-data : sent ≡ [] → pollOf m packet (length buffer) .length ≤ 1
     pub else-as-it-came : sent ≡ [] → pollOf m packet (length buffer) .after ≡ m

@@ -21,8 +21,8 @@ abbrev pub heldNow : Module → Held
 heldNow m = let w = m .meter .work in orAsBefore (copied (w .any) (w .last) (w .settings .track)) nothingHeld
 
 -- the reply
-unfoldable pub replyOf : Module → List ℕ → Reply
-replyOf m packet = replyFrom (heldNow m) packet
+unfoldable pub pollReply : Module → List ℕ → Reply
+pollReply m packet = replyFrom (heldNow m) packet
 
 -- the hold on port 1 is taken exactly when registers are sent
 abbrev pub afterReply : Reply → Module → Module
@@ -31,10 +31,10 @@ afterReply r m = cond (sends r) (withHeld port1 (heldNow m) m) m
 -- poll: 21, if the reply is longer than the buffer. How many bytes the reply has; 0 if it is refused.
 unfoldable pub pollOf : Module → List ℕ → ℕ → Polled
 pollOf m packet room =
-    let r = replyOf m packet in
+    let r = pollReply m packet in
     cond (leb (length (replyBytes r)) room) (record { answer = Done; length = length (replyBytes r); after = afterReply r m })
     (record { answer = Refused 21; length = 0; after = m })
 
 -- the buffer b: the reply at its front where there is room, and bytes past it stay
 unfoldable pub pollBuffer : Module → List ℕ → List ℕ → List ℕ
-pollBuffer m packet b = putWithin b 0 (replyBytes (replyOf m packet))
+pollBuffer m packet b = putWithin b 0 (replyBytes (pollReply m packet))

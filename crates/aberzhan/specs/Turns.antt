@@ -10,7 +10,7 @@ use Rattle.packet.specs.Commands.{askedBy}
 use Rattle.packet.specs.Replies.{replyBytes, sends}
 use Rattle.aberzhan.specs.declared.Module.{Module}
 use Rattle.aberzhan.specs.Ports.{aberzhan}
-use Rattle.aberzhan.specs.Polling.{replyOf, pollOf}
+use Rattle.aberzhan.specs.Polling.{pollReply, pollOf}
 use Rattle.aberzhan.specs.Calls.{Call, callHold, callRead, stepOf, returned}
 
 pub data Turn : Type 0 where
@@ -20,7 +20,7 @@ pub data Turn : Type 0 where
 -- the byte addresses of the registers that a poll sends: none where its reply has no data, or does not fit
 unfoldable pub sentBy : Module → List ℕ → ℕ → List ℕ
 sentBy m packet room =
-    let r = replyOf m packet in
+    let r = pollReply m packet in
     cond (sends r && leb (length (replyBytes r)) room) (askedBy packet .registers) []
 
 -- a read at port 1

@@ -11,7 +11,7 @@ use Rattle.serial.specs.Places.{put, putWithin}
 use Rattle.serial.proofs.Places.{put-fits}
 use Rattle.packet.specs.Replies.{replyBytes}
 use Rattle.aberzhan.specs.declared.Module.{Module}
-use Rattle.aberzhan.specs.Polling.{replyOf, pollOf, pollBuffer}
+use Rattle.aberzhan.specs.Polling.{pollReply, pollOf, pollBuffer}
 use Rattle.console.specs.Turns.{toldReply, polledTurn}
 use Rattle.console.specs.Answers.{end, bytesText, replyLine, refusedLine, saidText, toldText, answerText}
 use Rattle.console.specs.Replies.{SaysReply}
@@ -27,15 +27,15 @@ front room b behind h =
     ∙ take-append-seam b (drop (0 + length b) z ++ behind)
 
 module _ (m : Module) (packet : List ℕ) (room : ℕ) where
-  said : length (replyBytes (replyOf m packet)) ≤ room → answerText (polledTurn m packet room) ≡ ascii "ok" ++ bytesText (replyBytes (replyOf m packet)) ++ end
+  said : length (replyBytes (pollReply m packet)) ≤ room → answerText (polledTurn m packet room) ≡ ascii "ok" ++ bytesText (replyBytes (pollReply m packet)) ++ end
   unfolding toldText saidText replyLine toldReply pollOf pollBuffer
   said h =
-      let b = replyBytes (replyOf m packet) in
+      let b = replyBytes (pollReply m packet) in
       rw (le-leb (length b) room h) (ap (λ (t : List ℕ). ascii "ok" ++ bytesText t ++ end) (front room b (replicate (255 - room) 0) h))
 
-  refused : room < length (replyBytes (replyOf m packet)) → answerText (polledTurn m packet room) ≡ refusedLine 21
+  refused : room < length (replyBytes (pollReply m packet)) → answerText (polledTurn m packet room) ≡ refusedLine 21
   unfolding toldText saidText pollOf
-  refused h = rw (lt-leb (length (replyBytes (replyOf m packet))) room h) refl
+  refused h = rw (lt-leb (length (replyBytes (pollReply m packet))) room h) refl
 
 pub says-reply : SaysReply
 says-reply = record { whole = said; too-long = refused }

@@ -31,7 +31,7 @@ use Rattle.aberzhan.specs.declared.Stepped.{Stepped}
 use Rattle.aberzhan.specs.declared.Polled.{Polled}
 use Rattle.aberzhan.specs.Module.{deskOf, watchOf, withMeter, withWatch, portAt, atPort, refusal, atDesk, committing, notHeld, holding}
 use Rattle.aberzhan.specs.Module.{openOf, writeOf, commitOf, dropOf, holdOf, readOf, blockOf, resetOf}
-use Rattle.aberzhan.specs.Polling.{replyOf, afterReply, pollOf}
+use Rattle.aberzhan.specs.Polling.{pollReply, afterReply, pollOf}
 use Rattle.console.specs.declared.words.Kind.the-variants as kind
 use Rattle.console.specs.declared.items.Next.{Next}
 use Rattle.console.specs.declared.items.Next.the-variants as next
@@ -151,12 +151,12 @@ read-kept m port a = refl
 -- a poll by whether its reply fits
 abbrev answering : Module → List ℕ → Bool → Polled
 answering m packet fits =
-    let r = replyOf m packet in
+    let r = pollReply m packet in
     cond fits (record { answer = answer.Done; length = length (replyBytes r); after = afterReply r m }) (record { answer = answer.Refused 21; length = 0; after = m })
 
 poll-kept : (m : Module) (packet : List ℕ) (room : ℕ) → Keeps m (polledTurn m packet room)
 unfolding pollOf
-poll-kept m packet room = by (leb (length (replyBytes (replyOf m packet))) room)
+poll-kept m packet room = by (leb (length (replyBytes (pollReply m packet))) room)
   where
     by : (fits : Bool) → saysNo (polledSaid (answering m packet fits .answer)) ≡ true → answering m packet fits .after ≡ m
     by true e = absurd (false≢true e)

@@ -96,7 +96,7 @@ module-demand3 p =
     let s = end-sound p (d .end) in
     record {
       begins = f .begins;
-      plainly = took-ran (p .turns-allowed);
+      log-of-calls = took-ran (p .turns-allowed);
       as-calls = d;
       same-struct = λ short r. ap moduleOf (d .same-state short r);
       promise = promise core ports noCard (z .meter .work) (watchOf z) (steps p);

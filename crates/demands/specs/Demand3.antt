@@ -24,7 +24,7 @@ pub record ProgramDemand3 (p : Program) : Type 0 where
   -- the calls do what the steps do that they ask for, from the state of a fresh module; every log of the shorter sequence's calls has no refusal,
   -- the same values of every hold and read, and the same state at the end
   pub begins : stateOf (first p) ≡ fresh aberzhan (newly core noCard (first p .meter .work) (watchOf (first p)))
-  pub plainly : Ran aberzhan methods (calls p) (first p) (p .log)  -- the log is that of the calls which the turns count as: their contracts allow it too
+  pub log-of-calls : Ran aberzhan methods (calls p) (first p) (p .log)  -- the log is that of the calls which the turns count as: their contracts allow it too
   pub as-calls : CallsDemand3 aberzhan methods (first p) (calls p) (p .log)
   -- and leaves the very same struct
   pub same-struct : (short : Log aberzhan Module) → Ran aberzhan methods (shorterCalls aberzhan methods (first p) (calls p)) (first p) short →

@@ -1,4 +1,4 @@
--- What the module promises of every program of calls, in reading order.
+-- What the module promises of every program of calls and polls, in reading order.
 pub mod Program
 pub mod Beginning
 pub mod Demand3

@@ -9,8 +9,8 @@ use lib.ListN.{length, getD}
 use borrow.Author.Tests.{ltb-false}
 use Rattle.packet.specs.declared.Ending.{Ending}
 use Rattle.packet.specs.declared.Ending.the-variants.{Whole, Fails, Unanswered}
-use Rattle.packet.specs.Codes.{withData}
-use Rattle.packet.specs.Packets.{countIn, isNone, judged}
+use Rattle.packet.specs.Codes.{header}
+use Rattle.packet.specs.Packets.{countIn, noPacket, judged}
 
 -- of four tests none holds
 none-of : (a b c d : Bool) → a || b || c || d ≡ false → (a ≡ false) × (c ≡ false) × (d ≡ false)
@@ -31,10 +31,10 @@ pub record Framed (p : List ℕ) : Type 0 where
   pub three : 3 ≤ countIn p
   pub all : countIn p ≤ length p
 
-pub framed : (p : List ℕ) → isNone p ≡ false → Framed p
-unfolding isNone
+pub framed : (p : List ℕ) → noPacket p ≡ false → Framed p
+unfolding noPacket
 framed p e =
-    let q = none-of (ltb (length p) 2) (not (eqb (getD p 0 0) withData)) (ltb (countIn p) 3) (ltb (length p) (countIn p)) e in
+    let q = none-of (ltb (length p) 2) (not (eqb (getD p 0 0) header)) (ltb (countIn p) 3) (ltb (length p) (countIn p)) e in
     record { two = ltb-false _ _ (q .0); three = ltb-false _ _ (q .1); all = ltb-false _ _ (q .2) }
 
 -- a packet that is whole is none of those that have no reply
@@ -49,4 +49,4 @@ answered false e h = refl
 
 pub whole-long : (p : List ℕ) → judged p ≡ Whole → 3 ≤ length p
 unfolding judged
-whole-long p e = let f = framed p (answered (isNone p) _ (subst Answered (sym e) tt)) in omega (arith, f .three, f .all)
+whole-long p e = let f = framed p (answered (noPacket p) _ (subst Answered (sym e) tt)) in omega (arith, f .three, f .all)

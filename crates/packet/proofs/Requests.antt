@@ -8,7 +8,7 @@ use borrow.Author.Tests.{eq-eqb}
 use Rattle.serial.specs.Places.{part}
 use Rattle.packet.specs.declared.Ending.{Ending}
 use Rattle.packet.specs.declared.Ending.the-variants.{Whole, Fails}
-use Rattle.packet.specs.Packets.{checksum, isNone, sumRight, judged, commandsIn}
+use Rattle.packet.specs.Packets.{checksum, noPacket, sumRight, judged, commandsIn}
 use Rattle.packet.specs.Commands.{Asked, selects, targetOf, notUsed, parameters, pointed, bytesRead, reading, whileSelected, commandOf, registersFrom, askedFrom, askedIf, atFirst, askedBy}
 use Rattle.packet.specs.Replies.{withSum}
 use Rattle.packet.specs.Requests.{readPacket}
@@ -22,7 +22,7 @@ module _ (a : ℕ) where
   whole-by b e = rw e refl
 
   whole : judged (readPacket a) ≡ Whole
-  unfolding judged isNone readPacket withSum
+  unfolding judged noPacket readPacket withSum
   whole = whole-by (sumRight (readPacket a)) sum-right
 
   commands : commandsIn (readPacket a) ≡ 0xA3 ∷ a % 256 ∷ a / 256 ∷ 0xE3 ∷ []

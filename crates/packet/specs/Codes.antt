@@ -1,7 +1,11 @@
--- The reply codes of document 004 that are given.
+-- The header of a packet, and the reply codes of document 004 that are given.
 use Prim.Native.Nat.{ℕ}
 
--- acknowledge with data; a packet begins with the same byte
+-- the first byte of a packet
+abbrev pub header : ℕ
+header = 0xAA
+
+-- acknowledge with data
 abbrev pub withData : ℕ
 withData = 0xAA
 

@@ -4,7 +4,7 @@ use mathlib.Core.Bool.{Bool, true, false, cond, _&&_, _||_}
 use mathlib.Core.List.{List, [], _∷_, _++_}
 use lib.Dec.{eqb, leb, ltb}
 use lib.ListN.{length, getD}
-use Rattle.packet.specs.declared.Line.{Line}
+use Rattle.packet.specs.declared.Device.{Device}
 use Rattle.packet.specs.declared.Command.{Command}
 use Rattle.packet.specs.declared.Command.the-variants.{Goes, Reads, Stops}
 use Rattle.packet.specs.declared.Ending.{Ending}
@@ -24,7 +24,7 @@ parameters c =
     (cond (eqb c 0xA1 || eqb c 0xA2 || eqb c 0xCF || eqb c 0xE0) 1
     0)
 
--- it selects a target: C0 to CE the target 0 to 14, CF the one whose number stands behind it
+-- it selects a target: C0 to CE the target 0 to 14, CF the one whose number stands behind it (without its number CF selects none: it lacks a parameter)
 unfoldable pub selects : ℕ → List ℕ → Bool
 selects c behind = within 0xC0 0xCE c || (eqb c 0xCF && ltb 0 (length behind))
 
@@ -32,7 +32,7 @@ unfoldable pub targetOf : ℕ → List ℕ → ℕ
 targetOf c behind = cond (eqb c 0xCF) (getD behind 0 0) (c - 0xC0)
 
 -- target 1 is this device, and 0 none; any other number makes it another device's packet
-unfoldable pub selecting : Line → ℕ → Command
+unfoldable pub selecting : Device → ℕ → Command
 selecting l target =
     cond (eqb target 1) (Goes (record { selected = true; pointer = l .pointer }))
     (cond (eqb target 0) (Goes (record { selected = false; pointer = l .pointer }))
@@ -55,21 +55,21 @@ unfoldable pub bytesRead : ℕ → List ℕ → ℕ
 bytesRead c behind = cond (eqb c 0xE0) (getD behind 0 0) (c - 0xE0)
 
 -- whole registers alone are read; the pointer, of 16 bits, moves on behind them
-unfoldable pub reading : Line → ℕ → Command
+unfoldable pub reading : Device → ℕ → Command
 reading l n =
     cond (eqb (n % 3) 0) (Reads (n / 3) (record { selected = l .selected; pointer = (l .pointer + n) % 65536 }))
     (Stops (Fails negative))
 
--- of this device while it is selected, by the first line that fits. (Behind A0 to A3 only D0 to DF, the register writes, and E0 to EF are left.)
-unfoldable pub whileSelected : Line → ℕ → List ℕ → Command
+-- of this device while it is selected, by the first line that fits: A0 to A3 set the pointer, D0 to DF are register writes, and E0 to EF are left
+unfoldable pub whileSelected : Device → ℕ → List ℕ → Command
 whileSelected l c behind =
     cond (notUsed c) (Stops (Fails notImplemented))
     (cond (ltb (length behind) (parameters c)) (Stops (Fails negative))
-    (cond (leb c 0xA3) (Goes (record { selected = l .selected; pointer = pointed c (l .pointer) behind }))
-    (cond (leb c 0xDF) (Stops (Fails negative))
+    (cond (within 0xA0 0xA3 c) (Goes (record { selected = l .selected; pointer = pointed c (l .pointer) behind }))
+    (cond (within 0xD0 0xDF c) (Stops (Fails negative))
     (reading l (bytesRead c behind)))))
 
-unfoldable pub commandOf : Line → ℕ → List ℕ → Command
+unfoldable pub commandOf : Device → ℕ → List ℕ → Command
 commandOf l c behind =
     cond (selects c behind) (selecting l (targetOf c behind))
     (cond (l .selected) (whileSelected l c behind)
@@ -77,12 +77,12 @@ commandOf l c behind =
 
 -- ---- all of them
 
--- what a packet asks for: the byte addresses of the registers that it reads, up to the command that stops it or behind its last
+-- what a packet asks for: the byte addresses of the registers that its commands read, all of them or those before the one that stops it
 pub record Asked : Type 0 where
   pub registers : List ℕ
   pub ending : Ending
 
--- n registers, one behind the other
+-- n registers, one behind the other (past 65,535 within a read, where no register stands)
 unfoldable pub registersFrom : ℕ → ℕ → List ℕ
 registersFrom pointer zero = []
 registersFrom pointer (suc n) = pointer ∷ registersFrom (pointer + 3) n
@@ -93,19 +93,19 @@ nothingRead e = record { registers = []; ending = e }
 abbrev pub withRegisters : List ℕ → Asked → Asked
 withRegisters read r = record { registers = read ++ r .registers; ending = r .ending }
 
-abbrev pub follow : Line → Command → (Line → Asked) → Asked
+abbrev pub follow : Device → Command → (Device → Asked) → Asked
 follow l (Goes next) rest = rest next
 follow l (Reads n next) rest = withRegisters (registersFrom (l .pointer) n) (rest next)
 follow l (Stops e) rest = nothingRead e
 
--- of these bytes the first few are parameters of the command before them
-unfoldable pub askedFrom : List ℕ → ℕ → Line → Asked
+-- of these bytes the first `skip` are parameters of the command before them
+unfoldable pub askedFrom : List ℕ → ℕ → Device → Asked
 askedFrom [] skip l = nothingRead Whole
 askedFrom (c ∷ cs) (suc skip) l = askedFrom cs skip l
 askedFrom (c ∷ cs) zero l = follow l (commandOf l c cs) (askedFrom cs (parameters c))
 
 -- when a packet comes this device is selected and the pointer is 0: nothing is left of the packet before
-abbrev pub atFirst : Line
+abbrev pub atFirst : Device
 atFirst = record { selected = true; pointer = 0 }
 
 abbrev pub askedIf : Ending → List ℕ → Asked

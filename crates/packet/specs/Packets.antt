@@ -7,7 +7,7 @@ use lib.ListN.{length, getD, take}
 use Rattle.serial.specs.Places.{part}
 use Rattle.packet.specs.declared.Ending.{Ending}
 use Rattle.packet.specs.declared.Ending.the-variants.{Whole, Fails, Unanswered}
-use Rattle.packet.specs.Codes.{withData, negative, checksumFailed, tooLong}
+use Rattle.packet.specs.Codes.{header, negative, checksumFailed, tooLong}
 
 unfoldable pub sumOf : List ℕ → ℕ
 sumOf [] = 0
@@ -22,8 +22,8 @@ abbrev pub countIn : List ℕ → ℕ
 countIn p = getD p 1 0
 
 -- fewer than 2 bytes, another header, a count below 3, or fewer bytes than the count says
-unfoldable pub isNone : List ℕ → Bool
-isNone p = ltb (length p) 2 || not (eqb (getD p 0 0) withData) || ltb (countIn p) 3 || ltb (length p) (countIn p)
+unfoldable pub noPacket : List ℕ → Bool
+noPacket p = ltb (length p) 2 || not (eqb (getD p 0 0) header) || ltb (countIn p) 3 || ltb (length p) (countIn p)
 
 -- the last byte is the sum of all before it
 unfoldable pub sumRight : List ℕ → Bool
@@ -32,7 +32,7 @@ sumRight p = eqb (getD p (length p - 1) 0) (checksum (take (length p - 1) p))
 -- no reply to what is no packet; then in this order: more bytes than the count says, a wrong sum, no command at all
 unfoldable pub judged : List ℕ → Ending
 judged p =
-    cond (isNone p) Unanswered
+    cond (noPacket p) Unanswered
     (cond (ltb (countIn p) (length p)) (Fails tooLong)
     (cond (not (sumRight p)) (Fails checksumFailed)
     (cond (eqb (length p) 3) (Fails negative)

@@ -53,7 +53,7 @@ replyTo look p = let a = askedBy p in replied (readAll look (a .registers)) (a .
 unfoldable pub withSum : List ℕ → List ℕ
 withSum bytes = bytes ++ (checksum bytes ∷ [])
 
--- the code, the count of the whole reply, each register as three bytes, low byte first, and the checksum
+-- the code, the count of the whole reply, each register as three bytes, low byte first, as a card's fields are, and the checksum
 unfoldable pub valuesReply : List ℤ → List ℕ
 valuesReply vs = withSum (withData ∷ (3 * length vs + 3) ∷ fieldsBytes vs)
 

@@ -2,7 +2,7 @@
 ghost use mathlib.Core.Path.{_≡_};
 ghost use Prim.Native.Nat.{_≤_};
 ghost use lib.ListN.{length};
-ghost use Rattle.packet.specs.Packets.{checksum, isNone, sumRight, judged};
+ghost use Rattle.packet.specs.Packets.{checksum, noPacket, sumRight, judged};
 ghost use Rattle.packet.specs.Commands.{parameters, selects, targetOf, selecting, notUsed, pointed, bytesRead, reading, whileSelected, commandOf};
 use serial::byte_at;
 
@@ -14,7 +14,7 @@ pub enum Ending {
 }
 
 // What a command finds: whether this device is selected, and the address pointer.
-pub struct Line {
+pub struct Device {
     pub selected: bool,
     pub pointer: u16,
 }
@@ -22,8 +22,8 @@ pub struct Line {
 // What a command comes to: what the next one finds; so many registers read from the pointer on, and what the next one finds; or that it stops the
 // packet.
 pub enum Command {
-    Goes(Line),
-    Reads(u8, Line),
+    Goes(Device),
+    Reads(u8, Device),
     Stops(Ending),
 }
 
@@ -47,8 +47,8 @@ pub fn sum_of(bytes: &[u8]) -> u8
 }
 
 // What is no packet: too short, another header, a count below 3, or fewer bytes than the count says.
-fn is_none(p: &[u8]) -> bool
-    ensures { λ r. ⌜ r ≡ isNone (now (p .entry)) ⌝ }
+fn no_packet(p: &[u8]) -> bool
+    ensures { λ r. ⌜ r ≡ noPacket (now (p .entry)) ⌝ }
 {
     let n = p.len();
     let header = byte_at(p, 0);
@@ -69,7 +69,7 @@ fn sum_right(p: &[u8]) -> bool
 pub fn judge(p: &[u8]) -> Ending
     ensures { λ r. ⌜ r ≡ judged (now (p .entry)) ⌝ }
 {
-    if is_none(p) {
+    if no_packet(p) {
         return Ending::Unanswered;
     }
     let n = p.len();
@@ -117,17 +117,17 @@ fn target_of(c: u8, behind: &[u8]) -> u8
 }
 
 // This device is 1; with another's number the packet is another device's.
-fn select(l: Line, target: u8) -> Command
+fn select(l: Device, target: u8) -> Command
     ensures { λ r. ⌜ r ≡ selecting l target ⌝ }
 {
     if target == 1 {
-        return Command::Goes(Line {
+        return Command::Goes(Device {
             selected: true,
             pointer: l.pointer,
         });
     }
     if target == 0 {
-        return Command::Goes(Line {
+        return Command::Goes(Device {
             selected: false,
             pointer: l.pointer,
         });
@@ -170,14 +170,14 @@ fn bytes_read(c: u8, behind: &[u8]) -> u8
 }
 
 // Whole registers alone.
-fn read(l: Line, n: u8) -> Command
+fn read(l: Device, n: u8) -> Command
     ensures { λ r. ⌜ r ≡ reading l n ⌝ }
 {
     if n % 3 == 0 {
         let moved = (l.pointer as u32 + wide(n)) % 65536;
         return Command::Reads(
             n / 3,
-            Line {
+            Device {
                 selected: l.selected,
                 pointer: moved as u16,
             },
@@ -187,7 +187,7 @@ fn read(l: Line, n: u8) -> Command
 }
 
 // A command that selects no target, of this device while it is selected.
-fn while_selected(l: Line, c: u8, behind: &[u8]) -> Command
+fn while_selected(l: Device, c: u8, behind: &[u8]) -> Command
     ensures { λ r. ⌜ r ≡ whileSelected l c (now (behind .entry)) ⌝ }
 {
     if not_used(c) {
@@ -196,21 +196,21 @@ fn while_selected(l: Line, c: u8, behind: &[u8]) -> Command
     if behind.len() < parameters(c) {
         return Command::Stops(Ending::Fails(0xB0));
     }
-    if c <= 0xA3 {
+    if (0xA0 <= c) & (c <= 0xA3) {
         let pointer = point(c, l.pointer, behind);
-        return Command::Goes(Line {
+        return Command::Goes(Device {
             selected: l.selected,
             pointer,
         });
     }
-    if c <= 0xDF {
+    if (0xD0 <= c) & (c <= 0xDF) {
         return Command::Stops(Ending::Fails(0xB0));
     }
     read(l, bytes_read(c, behind))
 }
 
 // What the command c, with these bytes behind it, comes to.
-pub fn obey(l: Line, c: u8, behind: &[u8]) -> Command
+pub fn obey(l: Device, c: u8, behind: &[u8]) -> Command
     ensures { λ r. ⌜ r ≡ commandOf l c (now (behind .entry)) ⌝ }
 {
     if selects(c, behind) {

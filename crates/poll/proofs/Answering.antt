@@ -12,7 +12,7 @@ use Rattle.packet.specs.Packets.{judged, commandsIn}
 use Rattle.packet.specs.Commands.{Asked, askedFrom, atFirst, askedIf, askedBy}
 use Rattle.packet.specs.Replies.{Reply, none, code, readAll, replied, replyTo}
 use Rattle.poll.specs.Polls.{readAt, replyFrom}
-use Rattle.poll.specs.Inside.{noneGathered, gathers, replyOf}
+use Rattle.poll.specs.Inside.{noneGathered, gathers, gatheredReply}
 use Rattle.poll.proofs.Replying.{replied-is}
 
 -- the commands as they are lent
@@ -28,7 +28,7 @@ module _ (h : Held) (p : List ℕ) where
   unfolding replyFrom replyTo askedBy
   judged-reply e q = ap (λ (e : Ending). toAsked (askedIf e p)) (sym q)
 
-  pub whole-reply : judged p ≡ Whole → replyOf (gathers (readAt h) noneGathered (askedFrom (commandsIn p) 0 atFirst)) ≡ replyFrom h p
+  pub whole-reply : judged p ≡ Whole → gatheredReply (gathers (readAt h) noneGathered (askedFrom (commandsIn p) 0 atFirst)) ≡ replyFrom h p
   whole-reply q = sym (replied-is (readAt h) (askedFrom (commandsIn p) 0 atFirst)) ∙ judged-reply Whole q
 
   pub failed-reply : (c : ℕ) → judged p ≡ Fails c → code c ≡ replyFrom h p

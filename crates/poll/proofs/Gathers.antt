@@ -8,7 +8,7 @@ use lib.ListN.{length, getD, drop, drop-of-length-le}
 use lib.Seq.{drop-cons, drop-drop}
 use native.Mathlib.Numerals.{add-one}
 use Rattle.steps.specs.Answers.{OrRefusal, refused, accepted}
-use Rattle.packet.specs.declared.Line.{Line}
+use Rattle.packet.specs.declared.Device.{Device}
 use Rattle.packet.specs.declared.Command.{Command}
 use Rattle.packet.specs.declared.Command.the-variants.{Goes, Reads, Stops}
 use Rattle.packet.specs.declared.Ending.{Ending}
@@ -21,7 +21,7 @@ use Rattle.poll.specs.declared.Gathering.{Gathering}
 use Rattle.poll.specs.Inside.{takenIf, readInto, afterRead, walked, endedBy, gathers}
 
 -- parameters are passed over
-skipped : (cs : List ℕ) (k : ℕ) (l : Line) → askedFrom cs k l ≡ askedFrom (drop k cs) 0 l
+skipped : (cs : List ℕ) (k : ℕ) (l : Device) → askedFrom cs k l ≡ askedFrom (drop k cs) 0 l
 unfolding askedFrom
 skipped [] zero l = refl
 skipped [] (suc k) l = refl
@@ -50,13 +50,13 @@ module _ (look : ℕ → OrRefusal ℤ) where
   abbrev taking : Bool → Gathered → Taken
   taking b g = record { ok = b; gathered = g }
 
-  reads-over : (b : Bool) (g : Gathered) (next : Line) (ys : List ℕ) (e : Ending) → afterRead (taking b g) next .over ≡ true →
+  reads-over : (b : Bool) (g : Gathered) (next : Device) (ys : List ℕ) (e : Ending) → afterRead (taking b g) next .over ≡ true →
       endedBy (onward (taking b g) ys) e ≡ at-over (afterRead (taking b g) next)
   unfolding afterRead
   reads-over true g next ys e h = absurd (true≢false (sym h))
   reads-over false g next ys e h = refl
 
-  pub walk-over : (l : Line) (g : Gathered) (k : Command) (rest : Line → Asked) → walked look l g k .over ≡ true →
+  pub walk-over : (l : Device) (g : Gathered) (k : Command) (rest : Device → Asked) → walked look l g k .over ≡ true →
       gathers look g (follow l k rest) ≡ at-over (walked look l g k)
   unfolding walked gathers readInto
   walk-over l g (Goes next) rest h = absurd (true≢false (sym h))
@@ -65,14 +65,14 @@ module _ (look : ℕ → OrRefusal ℤ) where
       ∙ (let t = readInto look (registersFrom (l .pointer) n) g in reads-over (t .ok) (t .gathered) next (rest next .registers) (rest next .ending) h)
   walk-over l g (Stops e) rest h = refl
 
-  reads-on : (b : Bool) (g : Gathered) (next : Line) (rest : Line → Asked) → let t = taking b g in afterRead t next .over ≡ false →
-      endedBy (onward t (rest next .registers)) (rest next .ending) ≡ gathers look (afterRead t next .gathered) (rest (afterRead t next .line))
+  reads-on : (b : Bool) (g : Gathered) (next : Device) (rest : Device → Asked) → let t = taking b g in afterRead t next .over ≡ false →
+      endedBy (onward t (rest next .registers)) (rest next .ending) ≡ gathers look (afterRead t next .gathered) (rest (afterRead t next .device))
   unfolding afterRead gathers
   reads-on true g next rest h = refl
   reads-on false g next rest h = absurd (true≢false h)
 
-  pub walk-on : (l : Line) (g : Gathered) (k : Command) (rest : Line → Asked) → walked look l g k .over ≡ false →
-      gathers look g (follow l k rest) ≡ gathers look (walked look l g k .gathered) (rest (walked look l g k .line))
+  pub walk-on : (l : Device) (g : Gathered) (k : Command) (rest : Device → Asked) → walked look l g k .over ≡ false →
+      gathers look g (follow l k rest) ≡ gathers look (walked look l g k .gathered) (rest (walked look l g k .device))
   unfolding walked gathers
   walk-on l g (Goes next) rest h = refl
   walk-on l g (Reads n next) rest h =
@@ -81,7 +81,7 @@ module _ (look : ℕ → OrRefusal ℤ) where
   walk-on l g (Stops e) rest h = absurd (true≢false h)
 
   -- ---- a turn of the loop, at place `at` of the commands
-  module _ (cs : List ℕ) (at : ℕ) (i : at < length cs) (l : Line) (g : Gathered) where
+  module _ (cs : List ℕ) (at : ℕ) (i : at < length cs) (l : Device) (g : Gathered) where
     abbrev c : ℕ
     c = getD cs at 0
 
@@ -95,14 +95,14 @@ module _ (look : ℕ → OrRefusal ℤ) where
     pub turn-over : here .over ≡ true → gathers look g (askedFrom (drop at cs) 0 l) ≡ at-over here
     turn-over h = ap (gathers look g) asked-here ∙ walk-over l g (commandOf l c (drop (at + 1) cs)) (askedFrom (drop (at + 1) cs) (parameters c)) h
 
-    pub turn-on : here .over ≡ false → gathers look g (askedFrom (drop at cs) 0 l) ≡ gathers look (here .gathered) (askedFrom (drop (at + 1 + parameters c) cs) 0 (here .line))
+    pub turn-on : here .over ≡ false → gathers look g (askedFrom (drop at cs) 0 l) ≡ gathers look (here .gathered) (askedFrom (drop (at + 1 + parameters c) cs) 0 (here .device))
     turn-on h =
         ap (gathers look g) asked-here
         ∙ walk-on l g (commandOf l c (drop (at + 1) cs)) (askedFrom (drop (at + 1) cs) (parameters c)) h
-        ∙ ap (gathers look (here .gathered)) (skipped (drop (at + 1) cs) (parameters c) (here .line))
-        ∙ ap (λ (r : List ℕ). gathers look (here .gathered) (askedFrom r 0 (here .line))) (drop-drop (parameters c) (at + 1) cs)
+        ∙ ap (gathers look (here .gathered)) (skipped (drop (at + 1) cs) (parameters c) (here .device))
+        ∙ ap (λ (r : List ℕ). gathers look (here .gathered) (askedFrom r 0 (here .device))) (drop-drop (parameters c) (at + 1) cs)
 
   -- behind the last command
-  pub turn-last : (cs : List ℕ) (at : ℕ) (l : Line) (g : Gathered) → length cs ≤ at → gathers look g (askedFrom (drop at cs) 0 l) ≡ record { ending = Whole; gathered = g }
+  pub turn-last : (cs : List ℕ) (at : ℕ) (l : Device) (g : Gathered) → length cs ≤ at → gathers look g (askedFrom (drop at cs) 0 l) ≡ record { ending = Whole; gathered = g }
   unfolding gathers readInto askedFrom
   turn-last cs at l g i = rw (drop-of-length-le cs {i = at} i) refl

@@ -19,7 +19,7 @@ use Rattle.packet.specs.Commands.{Asked}
 use Rattle.packet.specs.Replies.{code, values, joined, readAll, sending, replied}
 use Rattle.poll.specs.declared.Gathered.{Gathered}
 use Rattle.poll.specs.declared.Taken.{Taken}
-use Rattle.poll.specs.Inside.{noneGathered, keeping, takenIf, readInto, endedBy, gathers, sendingOf, replyOf}
+use Rattle.poll.specs.Inside.{noneGathered, keeping, takenIf, readInto, endedBy, gathers, sendingOf, gatheredReply}
 
 -- g has these values, or there are too many of them for a reply
 record Has (g : Gathered) (vs : List ℤ) : Type 0 where
@@ -124,7 +124,7 @@ sending-is g vs h = go (ltb 84 (length vs)) refl
     go true t = sending-many g vs h (ltb-true _ _ t)
     go false t = sending-few g vs h (ltb-false _ _ t)
 
-replied-by : (ok : Bool) (g : Gathered) (q : OrRefusal (List ℤ)) (e : Ending) → let t : Taken = record { ok = ok; gathered = g } in Agrees [] q t → replied q e ≡ replyOf (endedBy t e)
+replied-by : (ok : Bool) (g : Gathered) (q : OrRefusal (List ℤ)) (e : Ending) → let t : Taken = record { ok = ok; gathered = g } in Agrees [] q t → replied q e ≡ gatheredReply (endedBy t e)
 replied-by true g (refused n) e h = absurd (true≢false h)
 replied-by false g (refused n) e h = refl
 replied-by true g (accepted ws) Whole h = sending-is g ws (h .1)
@@ -132,7 +132,7 @@ replied-by true g (accepted ws) (Fails c) h = refl
 replied-by true g (accepted ws) Unanswered h = refl
 replied-by false g (accepted ws) e h = absurd (true≢false (sym (h .0)))
 
-pub replied-is : (look : ℕ → OrRefusal ℤ) (a : Asked) → replied (readAll look (a .registers)) (a .ending) ≡ replyOf (gathers look noneGathered a)
+pub replied-is : (look : ℕ → OrRefusal ℤ) (a : Asked) → replied (readAll look (a .registers)) (a .ending) ≡ gatheredReply (gathers look noneGathered a)
 unfolding gathers
 replied-is look a =
     let t = readInto look (a .registers) noneGathered in

@@ -6,7 +6,7 @@ use lib.Dec.{eqb, ltb}
 use lib.IntN.{ℤ, pos}
 use lib.ListN.{set, take, replicate}
 use Rattle.steps.specs.Answers.{OrRefusal, refused, accepted}
-use Rattle.packet.specs.declared.Line.{Line}
+use Rattle.packet.specs.declared.Device.{Device}
 use Rattle.packet.specs.declared.Command.{Command}
 use Rattle.packet.specs.declared.Command.the-variants.{Goes, Reads, Stops}
 use Rattle.packet.specs.declared.Ending.{Ending}
@@ -39,16 +39,16 @@ readInto look [] g = record { ok = true; gathered = g }
 readInto look (a ∷ rest) g = takenIf (look a) g (readInto look rest)
 
 -- a refused register is a negative acknowledge
-unfoldable pub afterRead : Taken → Line → Walked
+unfoldable pub afterRead : Taken → Device → Walked
 afterRead t next =
-    cond (t .ok) (record { over = false; ending = Whole; line = next; gathered = t .gathered })
-    (record { over = true; ending = Fails negative; line = next; gathered = t .gathered })
+    cond (t .ok) (record { over = false; ending = Whole; device = next; gathered = t .gathered })
+    (record { over = true; ending = Fails negative; device = next; gathered = t .gathered })
 
 -- what a command comes to
-unfoldable pub walked : (ℕ → OrRefusal ℤ) → Line → Gathered → Command → Walked
-walked look l g (Goes next) = record { over = false; ending = Whole; line = next; gathered = g }
+unfoldable pub walked : (ℕ → OrRefusal ℤ) → Device → Gathered → Command → Walked
+walked look l g (Goes next) = record { over = false; ending = Whole; device = next; gathered = g }
 walked look l g (Reads n next) = afterRead (readInto look (registersFrom (l .pointer) n) g) next
-walked look l g (Stops e) = record { over = true; ending = e; line = l; gathered = g }
+walked look l g (Stops e) = record { over = true; ending = e; device = l; gathered = g }
 
 abbrev pub endedBy : Taken → Ending → Gathering
 endedBy t e = cond (t .ok) (record { ending = e; gathered = t .gathered }) (record { ending = Fails negative; gathered = t .gathered })
@@ -69,5 +69,5 @@ replyIf Whole g = sendingOf g
 replyIf (Fails c) g = code c
 replyIf Unanswered g = none
 
-abbrev pub replyOf : Gathering → Reply
-replyOf g = replyIf (g .ending) (g .gathered)
+abbrev pub gatheredReply : Gathering → Reply
+gatheredReply g = replyIf (g .ending) (g .gathered)

@@ -7,11 +7,11 @@ ghost use Rattle.card.specs.Cards.{fieldsBytes};
 ghost use Rattle.packet.specs.Commands.{registersFrom, commandOf, askedFrom, atFirst};
 ghost use Rattle.packet.specs.Replies.{code, valuesReply, replyBytes};
 ghost use Rattle.poll.specs.Polls.{readAt, replyFrom, repliedIn};
-ghost use Rattle.poll.specs.Inside.{noneGathered, keeping, readInto, afterRead, walked, gathers, sendingOf, replyOf};
+ghost use Rattle.poll.specs.Inside.{noneGathered, keeping, readInto, afterRead, walked, gathers, sendingOf, gatheredReply};
 use address::ByteAddr;
 use packet::Command;
+use packet::Device;
 use packet::Ending;
-use packet::Line;
 use port::Held;
 use port::Reading;
 
@@ -38,7 +38,7 @@ pub struct Taken {
 pub struct Walked {
     pub over: bool,
     pub ending: Ending,
-    pub line: Line,
+    pub device: Device,
     pub gathered: Gathered,
 }
 
@@ -90,7 +90,7 @@ fn read_on(h: Held, g: Gathered, pointer: u16, n: u8) -> Taken
 }
 
 // A refused register is a negative acknowledge.
-fn after_read(t: Taken, next: Line) -> Walked
+fn after_read(t: Taken, next: Device) -> Walked
     ensures { λ r. ⌜ r ≡ afterRead t next ⌝ }
 {
     let gathered = t.gathered;
@@ -98,34 +98,34 @@ fn after_read(t: Taken, next: Line) -> Walked
         return Walked {
             over: false,
             ending: Ending::Whole,
-            line: next,
+            device: next,
             gathered,
         };
     }
     Walked {
         over: true,
         ending: Ending::Fails(0xB0),
-        line: next,
+        device: next,
         gathered,
     }
 }
 
 // One command.
-fn walk(h: Held, l: Line, g: Gathered, c: u8, behind: &[u8]) -> Walked
+fn walk(h: Held, l: Device, g: Gathered, c: u8, behind: &[u8]) -> Walked
     ensures { λ r. ⌜ r ≡ walked (readAt h) l g (commandOf l c (now (behind .entry))) ⌝ }
 {
     match packet::obey(l, c, behind) {
         Command::Goes(next) => Walked {
             over: false,
             ending: Ending::Whole,
-            line: next,
+            device: next,
             gathered: g,
         },
         Command::Reads(n, next) => after_read(read_on(h, g, l.pointer, n), next),
         Command::Stops(e) => Walked {
             over: true,
             ending: e,
-            line: l,
+            device: l,
             gathered: g,
         },
     }
@@ -135,7 +135,7 @@ fn walk(h: Held, l: Line, g: Gathered, c: u8, behind: &[u8]) -> Walked
 fn gather(h: Held, commands: &[u8]) -> Gathering
     ensures { λ r. ⌜ r ≡ gathers (readAt h) noneGathered (askedFrom (now (commands .entry)) 0 atFirst) ⌝ }
 {
-    let mut l = Line {
+    let mut l = Device {
         selected: true,
         pointer: 0,
     };
@@ -153,7 +153,7 @@ fn gather(h: Held, commands: &[u8]) -> Gathering
             let ending = w.ending;
             return Gathering { ending, gathered };
         }
-        l = w.line;
+        l = w.device;
         g = gathered;
         at = next + packet::parameters(c);
     }
@@ -234,8 +234,8 @@ fn send_values(g: Gathered, out: &mut [u8]) -> Replied
 }
 
 fn send(g: Gathering, out: &mut [u8]) -> Replied
-    ensures { λ r. ⌜ (r ≡ repliedIn (length (now (out .entry))) (replyOf g))
-        × (now (out .exit) ≡ putWithin (now (out .entry)) 0 (replyBytes (replyOf g))) ⌝ }
+    ensures { λ r. ⌜ (r ≡ repliedIn (length (now (out .entry))) (gatheredReply g))
+        × (now (out .exit) ≡ putWithin (now (out .entry)) 0 (replyBytes (gatheredReply g))) ⌝ }
 {
     let gathered = g.gathered;
     let ending = g.ending;

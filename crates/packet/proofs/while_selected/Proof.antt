@@ -1,6 +1,6 @@
 -- `packet::while_selected` meets its contract.
 use mathlib.Core.Path.{sym, _∙_}
-use borrow.Author.Tests.{lt-ltb, le-ltb, le-leb, lt-leb}
+use borrow.Author.Tests.{lt-ltb, le-ltb}
 use Rattle.packet.specs.Commands.{whileSelected}
 use borrow.Author.Needs.{needs}
 use Rattle.packet.proofs.while_selected.Statement.{statement}
@@ -29,7 +29,7 @@ returns-3 c =
     let not-used = c .before .before .before .before .before .not-used in
     let if1 = c .before .before .before .before .if1 in
     let parameters = c .before .before .before .parameters in
-    simp (sym (not-used .ensures) ∙ if1 .left, sym (parameters .ensures), le-ltb _ _ (c .before .before .if2 .left), le-leb _ _ (c .before .if3 .taken), c .point .ensures)
+    simp (sym (not-used .ensures) ∙ if1 .left, sym (parameters .ensures), le-ltb _ _ (c .before .before .if2 .left), c .before .if3 .taken, c .point .ensures)
 
 returns-4 : tie.Need-returns-4
 unfolding whileSelected
@@ -37,7 +37,7 @@ returns-4 c =
     let not-used = c .before .before .before .before .before .not-used in
     let if1 = c .before .before .before .before .if1 in
     let parameters = c .before .before .before .parameters in
-    simp (sym (not-used .ensures) ∙ if1 .left, sym (parameters .ensures), le-ltb _ _ (c .before .before .if2 .left), lt-leb _ _ (c .before .if3 .left), le-leb _ _ (c .if4 .taken))
+    simp (sym (not-used .ensures) ∙ if1 .left, sym (parameters .ensures), le-ltb _ _ (c .before .before .if2 .left), c .before .if3 .left, c .if4 .taken)
 
 bytes-read-requires : tie.Need-bytes-read-requires
 bytes-read-requires c κs = search needs
@@ -53,7 +53,7 @@ returns-5 c =
     let parameters = c .before .before .before .before .before .parameters in
     let if2 = c .before .before .before .before .if2 in
     let if3 = c .before .before .before .if3 in
-    simp (sym (not-used .ensures) ∙ if1 .left, sym (parameters .ensures), le-ltb _ _ (if2 .left), lt-leb _ _ (if3 .left), lt-leb _ _ (c .before .before .if4 .left), c .read .ensures, c .before .bytes-read .ensures)
+    simp (sym (not-used .ensures) ∙ if1 .left, sym (parameters .ensures), le-ltb _ _ (if2 .left), if3 .left, c .before .before .if4 .left, c .read .ensures, c .before .bytes-read .ensures)
 
 pub while-selected-spec : {M : Type 1} → statement M
 while-selected-spec =

@@ -7,7 +7,7 @@ use lib.ListN.{length}
 use Rattle.packet.proofs.Judging.{whole-long}
 use Rattle.packet.specs.Commands.{askedFrom, atFirst}
 use Rattle.poll.specs.Polls.{readAt}
-use Rattle.poll.specs.Inside.{noneGathered, gathers, replyOf}
+use Rattle.poll.specs.Inside.{noneGathered, gathers, gatheredReply}
 use Rattle.poll.proofs.Sending.{none-replied, none-put, of-reply}
 use Rattle.poll.proofs.Answering.{commands-lent, whole-reply, failed-reply, none-reply}
 use borrow.Author.Needs.{needs}
@@ -60,7 +60,7 @@ returns c =
     let judge = c .before .before .before .before .before .before .before .before .judge in
     let enum-told = c .before .before .before .before .before .before .enum-told in
     let gather = c .before .before .before .before .gather in
-    of-reply (args .out .now) _ _ (ap replyOf (gather .ensures ∙ ap (λ (r : List ℕ). gathers (readAt (args .h)) noneGathered (askedFrom r 0 atFirst)) (commands-lent (args .packet .now))) ∙ whole-reply (args .h) (args .packet .now) (sym (judge .ensures) ∙ enum-told .given .1)) (c .before .before .send .ensures)
+    of-reply (args .out .now) _ _ (ap gatheredReply (gather .ensures ∙ ap (λ (r : List ℕ). gathers (readAt (args .h)) noneGathered (askedFrom r 0 atFirst)) (commands-lent (args .packet .now))) ∙ whole-reply (args .h) (args .packet .now) (sym (judge .ensures) ∙ enum-told .given .1)) (c .before .before .send .ensures)
 
 same-length-2 : tie.Need-same-length-2
 same-length-2 c = search needs

@@ -88,8 +88,8 @@ loop-again c =
     let turn = c .before .before .before .before in
     let cs = args .commands .now in
     let n = c .parameters .result in
-    ap (λ (w : Walked). gathers (readAt (args .h)) (w .gathered) (askedFrom (drop (loop .at + 1 + n) cs) 0 (w .line))) (here turn)
-    ∙ ap (λ (n : ℕ). let w = walked (readAt (args .h)) (loop .l) (loop .g) (commandOf (loop .l) (getD cs (loop .at) 0) (drop (loop .at + 1) cs)) in gathers (readAt (args .h)) (w .gathered) (askedFrom (drop (loop .at + 1 + n) cs) 0 (w .line))) (c .parameters .ensures)
+    ap (λ (w : Walked). gathers (readAt (args .h)) (w .gathered) (askedFrom (drop (loop .at + 1 + n) cs) 0 (w .device))) (here turn)
+    ∙ ap (λ (n : ℕ). let w = walked (readAt (args .h)) (loop .l) (loop .g) (commandOf (loop .l) (getD cs (loop .at) 0) (drop (loop .at + 1) cs)) in gathers (readAt (args .h)) (w .gathered) (askedFrom (drop (loop .at + 1 + n) cs) 0 (w .device))) (c .parameters .ensures)
     ∙ sym (turn-on (readAt (args .h)) cs (loop .at) (omega arith) (loop .l) (loop .g) (ap (λ (w : Walked). w .over) (sym (here turn)) ∙ c .before .before .if1 .left))
     ∙ loop .inv
 
