@@ -22,7 +22,7 @@ use Rattle.port.specs.Reading.{look}
 use Rattle.packet.specs.declared.Ending.{Ending}
 use Rattle.packet.specs.declared.Ending.the-variants.{Whole, Fails, Unanswered}
 use Rattle.packet.specs.Commands.{askedBy}
-use Rattle.packet.specs.Replies.{Reply, none, code, values, joined, readAll, sending, replied, replyTo, valuesReply, replyBytes, sends}
+use Rattle.packet.specs.Replies.{Reply, noReply, code, values, joined, readAll, sending, replied, replyTo, valuesReply, replyBytes, sends}
 use Rattle.poll.specs.Polls.{readAt, replyFrom}
 use Rattle.aberzhan.specs.declared.Module.{Module}
 use Rattle.aberzhan.specs.declared.Polled.{Polled}
@@ -174,10 +174,10 @@ module _ (m : Module) (packet buffer : List ℕ) where
       nil-cons : (a : ℕ) (more : List ℕ) → [] ≡ a ∷ more → ⊥
       nil-cons a more q = subst Empty q tt
 
-  -- a reply that sends none has one byte at most
+  -- a reply that sends no register has one byte at most
   short-reply : (r : Reply) → sends r ≡ false → length (replyBytes r) ≤ 1
   unfolding replyBytes
-  short-reply none e = omega arith
+  short-reply noReply e = omega arith
   short-reply (code n) e = omega arith
   short-reply (values vs) e = absurd (true≢false e)
 

@@ -33,9 +33,9 @@ targetOf c behind = cond (eqb c 0xCF) (getD behind 0 0) (c - 0xC0)
 
 -- target 1 is this device, and 0 none; any other number makes it another device's packet
 unfoldable pub selecting : Device → ℕ → Command
-selecting l target =
-    cond (eqb target 1) (Goes (record { selected = true; pointer = l .pointer }))
-    (cond (eqb target 0) (Goes (record { selected = false; pointer = l .pointer }))
+selecting d target =
+    cond (eqb target 1) (Goes (record { selected = true; pointer = d .pointer }))
+    (cond (eqb target 0) (Goes (record { selected = false; pointer = d .pointer }))
     (Stops Unanswered))
 
 -- 0 to 9F, A4 to BF, F0 to FF
@@ -56,23 +56,23 @@ bytesRead c behind = cond (eqb c 0xE0) (getD behind 0 0) (c - 0xE0)
 
 -- whole registers alone are read; the pointer, of 16 bits, moves on behind them
 unfoldable pub reading : Device → ℕ → Command
-reading l n =
-    cond (eqb (n % 3) 0) (Reads (n / 3) (record { selected = l .selected; pointer = (l .pointer + n) % 65536 }))
+reading d n =
+    cond (eqb (n % 3) 0) (Reads (n / 3) (record { selected = d .selected; pointer = (d .pointer + n) % 65536 }))
     (Stops (Fails negative))
 
 -- of this device while it is selected, by the first line that fits: A0 to A3 set the pointer, D0 to DF are register writes, and E0 to EF are left
 unfoldable pub whileSelected : Device → ℕ → List ℕ → Command
-whileSelected l c behind =
+whileSelected d c behind =
     cond (notUsed c) (Stops (Fails notImplemented))
     (cond (ltb (length behind) (parameters c)) (Stops (Fails negative))
-    (cond (within 0xA0 0xA3 c) (Goes (record { selected = l .selected; pointer = pointed c (l .pointer) behind }))
+    (cond (within 0xA0 0xA3 c) (Goes (record { selected = d .selected; pointer = pointed c (d .pointer) behind }))
     (cond (within 0xD0 0xDF c) (Stops (Fails negative))
-    (reading l (bytesRead c behind)))))
+    (reading d (bytesRead c behind)))))
 
 unfoldable pub commandOf : Device → ℕ → List ℕ → Command
-commandOf l c behind =
-    cond (selects c behind) (selecting l (targetOf c behind))
-    (cond (l .selected) (whileSelected l c behind)
+commandOf d c behind =
+    cond (selects c behind) (selecting d (targetOf c behind))
+    (cond (d .selected) (whileSelected d c behind)
     (Stops Unanswered))
 
 -- ---- all of them
@@ -94,15 +94,15 @@ abbrev pub withRegisters : List ℕ → Asked → Asked
 withRegisters read r = record { registers = read ++ r .registers; ending = r .ending }
 
 abbrev pub follow : Device → Command → (Device → Asked) → Asked
-follow l (Goes next) rest = rest next
-follow l (Reads n next) rest = withRegisters (registersFrom (l .pointer) n) (rest next)
-follow l (Stops e) rest = nothingRead e
+follow d (Goes next) rest = rest next
+follow d (Reads n next) rest = withRegisters (registersFrom (d .pointer) n) (rest next)
+follow d (Stops e) rest = nothingRead e
 
 -- of these bytes the first `skip` are parameters of the command before them
 unfoldable pub askedFrom : List ℕ → ℕ → Device → Asked
-askedFrom [] skip l = nothingRead Whole
-askedFrom (c ∷ cs) (suc skip) l = askedFrom cs skip l
-askedFrom (c ∷ cs) zero l = follow l (commandOf l c cs) (askedFrom cs (parameters c))
+askedFrom [] skip d = nothingRead Whole
+askedFrom (c ∷ cs) (suc skip) d = askedFrom cs skip d
+askedFrom (c ∷ cs) zero d = follow d (commandOf d c cs) (askedFrom cs (parameters c))
 
 -- when a packet comes this device is selected and the pointer is 0: nothing is left of the packet before
 abbrev pub atFirst : Device

@@ -13,9 +13,9 @@ use Rattle.packet.specs.Codes.{withData, acknowledge, negative, tooLong}
 use Rattle.packet.specs.Packets.{checksum}
 use Rattle.packet.specs.Commands.{askedBy}
 
--- none; one byte, a code; or the values of registers
+-- no byte; one, a code; or the values of registers
 pub data Reply : Type 0 where
-  none : Reply
+  noReply : Reply
   code : ℕ → Reply
   values : List ℤ → Reply
 
@@ -42,7 +42,7 @@ abbrev pub replied : OrRefusal (List ℤ) → Ending → Reply
 replied (refused n) e = code negative
 replied (accepted vs) Whole = sending vs
 replied (accepted vs) (Fails c) = code c
-replied (accepted vs) Unanswered = none
+replied (accepted vs) Unanswered = noReply
 
 unfoldable pub replyTo : (ℕ → OrRefusal ℤ) → List ℕ → Reply
 replyTo look p = let a = askedBy p in replied (readAll look (a .registers)) (a .ending)
@@ -58,12 +58,12 @@ unfoldable pub valuesReply : List ℤ → List ℕ
 valuesReply vs = withSum (withData ∷ (3 * length vs + 3) ∷ fieldsBytes vs)
 
 unfoldable pub replyBytes : Reply → List ℕ
-replyBytes none = []
+replyBytes noReply = []
 replyBytes (code n) = n ∷ []
 replyBytes (values vs) = valuesReply vs
 
 -- it sends registers
 abbrev pub sends : Reply → Bool
-sends none = false
+sends noReply = false
 sends (code n) = false
 sends (values vs) = true

@@ -117,19 +117,19 @@ fn target_of(c: u8, behind: &[u8]) -> u8
 }
 
 // This device is 1; with another's number the packet is another device's.
-fn select(l: Device, target: u8) -> Command
-    ensures { λ r. ⌜ r ≡ selecting l target ⌝ }
+fn select(d: Device, target: u8) -> Command
+    ensures { λ r. ⌜ r ≡ selecting d target ⌝ }
 {
     if target == 1 {
         return Command::Goes(Device {
             selected: true,
-            pointer: l.pointer,
+            pointer: d.pointer,
         });
     }
     if target == 0 {
         return Command::Goes(Device {
             selected: false,
-            pointer: l.pointer,
+            pointer: d.pointer,
         });
     }
     Command::Stops(Ending::Unanswered)
@@ -170,15 +170,15 @@ fn bytes_read(c: u8, behind: &[u8]) -> u8
 }
 
 // Whole registers alone.
-fn read(l: Device, n: u8) -> Command
-    ensures { λ r. ⌜ r ≡ reading l n ⌝ }
+fn read(d: Device, n: u8) -> Command
+    ensures { λ r. ⌜ r ≡ reading d n ⌝ }
 {
     if n % 3 == 0 {
-        let moved = (l.pointer as u32 + wide(n)) % 65536;
+        let moved = (d.pointer as u32 + wide(n)) % 65536;
         return Command::Reads(
             n / 3,
             Device {
-                selected: l.selected,
+                selected: d.selected,
                 pointer: moved as u16,
             },
         );
@@ -187,8 +187,8 @@ fn read(l: Device, n: u8) -> Command
 }
 
 // A command that selects no target, of this device while it is selected.
-fn while_selected(l: Device, c: u8, behind: &[u8]) -> Command
-    ensures { λ r. ⌜ r ≡ whileSelected l c (now (behind .entry)) ⌝ }
+fn while_selected(d: Device, c: u8, behind: &[u8]) -> Command
+    ensures { λ r. ⌜ r ≡ whileSelected d c (now (behind .entry)) ⌝ }
 {
     if not_used(c) {
         return Command::Stops(Ending::Fails(0xBC));
@@ -197,27 +197,27 @@ fn while_selected(l: Device, c: u8, behind: &[u8]) -> Command
         return Command::Stops(Ending::Fails(0xB0));
     }
     if (0xA0 <= c) & (c <= 0xA3) {
-        let pointer = point(c, l.pointer, behind);
+        let pointer = point(c, d.pointer, behind);
         return Command::Goes(Device {
-            selected: l.selected,
+            selected: d.selected,
             pointer,
         });
     }
     if (0xD0 <= c) & (c <= 0xDF) {
         return Command::Stops(Ending::Fails(0xB0));
     }
-    read(l, bytes_read(c, behind))
+    read(d, bytes_read(c, behind))
 }
 
 // What the command c, with these bytes behind it, comes to.
-pub fn obey(l: Device, c: u8, behind: &[u8]) -> Command
-    ensures { λ r. ⌜ r ≡ commandOf l c (now (behind .entry)) ⌝ }
+pub fn obey(d: Device, c: u8, behind: &[u8]) -> Command
+    ensures { λ r. ⌜ r ≡ commandOf d c (now (behind .entry)) ⌝ }
 {
     if selects(c, behind) {
-        return select(l, target_of(c, behind));
+        return select(d, target_of(c, behind));
     }
-    if l.selected {
-        return while_selected(l, c, behind);
+    if d.selected {
+        return while_selected(d, c, behind);
     }
     Command::Stops(Ending::Unanswered)
 }

@@ -10,7 +10,7 @@ use Rattle.packet.specs.declared.Ending.{Ending}
 use Rattle.packet.specs.declared.Ending.the-variants.{Whole, Fails, Unanswered}
 use Rattle.packet.specs.Packets.{judged, commandsIn}
 use Rattle.packet.specs.Commands.{Asked, askedFrom, atFirst, askedIf, askedBy}
-use Rattle.packet.specs.Replies.{Reply, none, code, readAll, replied, replyTo}
+use Rattle.packet.specs.Replies.{Reply, noReply, code, readAll, replied, replyTo}
 use Rattle.poll.specs.Polls.{readAt, replyFrom}
 use Rattle.poll.specs.Inside.{noneGathered, gathers, gatheredReply}
 use Rattle.poll.proofs.Replying.{replied-is}
@@ -34,5 +34,5 @@ module _ (h : Held) (p : List ℕ) where
   pub failed-reply : (c : ℕ) → judged p ≡ Fails c → code c ≡ replyFrom h p
   failed-reply c q = judged-reply (Fails c) q
 
-  pub none-reply : judged p ≡ Unanswered → none ≡ replyFrom h p
+  pub none-reply : judged p ≡ Unanswered → noReply ≡ replyFrom h p
   none-reply q = judged-reply Unanswered q

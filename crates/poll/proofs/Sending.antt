@@ -13,7 +13,7 @@ use Rattle.serial.proofs.Places.{put-fits}
 use Rattle.card.specs.Cards.{fieldsBytes}
 use Rattle.packet.specs.Codes.{withData, acknowledge, tooLong}
 use Rattle.packet.specs.Packets.{checksum}
-use Rattle.packet.specs.Replies.{Reply, none, code, values, withSum, valuesReply, replyBytes, sends}
+use Rattle.packet.specs.Replies.{Reply, noReply, code, values, withSum, valuesReply, replyBytes, sends}
 use Rattle.poll.specs.declared.Gathered.{Gathered}
 use Rattle.poll.specs.declared.Replied.{Replied}
 use Rattle.poll.specs.Polls.{repliedIn}
@@ -60,13 +60,13 @@ module _ (r : Reply) (b : List ℕ) where
   is-put l = sym (put-fits b (replyBytes r) 0 (omega arith))
 
 -- no reply: nothing is written
-pub none-replied : (b : List ℕ) → _≡_ {A = Replied} (record { fits = true; length = 0; sends = false }) (repliedIn (length b) none)
+pub none-replied : (b : List ℕ) → _≡_ {A = Replied} (record { fits = true; length = 0; sends = false }) (repliedIn (length b) noReply)
 unfolding replyBytes
-none-replied b = has-room none b (omega arith)
+none-replied b = has-room noReply b (omega arith)
 
-pub none-put : (b : List ℕ) → b ≡ putWithin b 0 (replyBytes none)
+pub none-put : (b : List ℕ) → b ≡ putWithin b 0 (replyBytes noReply)
 unfolding replyBytes put
-none-put b = is-put none b (omega arith)
+none-put b = is-put noReply b (omega arith)
 
 -- what is said of a reply, of the same reply
 pub of-reply : (b c : List ℕ) (x : Replied) {q r : Reply} → q ≡ r → (x ≡ repliedIn (length b) q) × (c ≡ putWithin b 0 (replyBytes q)) → (x ≡ repliedIn (length b) r) × (c ≡ putWithin b 0 (replyBytes r))

@@ -13,7 +13,7 @@ use Rattle.packet.specs.declared.Ending.{Ending}
 use Rattle.packet.specs.declared.Ending.the-variants.{Whole, Fails, Unanswered}
 use Rattle.packet.specs.Codes.{acknowledge, negative, tooLong}
 use Rattle.packet.specs.Commands.{Asked, registersFrom}
-use Rattle.packet.specs.Replies.{Reply, none, code, values}
+use Rattle.packet.specs.Replies.{Reply, noReply, code, values}
 use Rattle.poll.specs.declared.Gathered.{Gathered}
 use Rattle.poll.specs.declared.Taken.{Taken}
 use Rattle.poll.specs.declared.Walked.{Walked}
@@ -46,9 +46,9 @@ afterRead t next =
 
 -- what a command comes to
 unfoldable pub walked : (ℕ → OrRefusal ℤ) → Device → Gathered → Command → Walked
-walked look l g (Goes next) = record { over = false; ending = Whole; device = next; gathered = g }
-walked look l g (Reads n next) = afterRead (readInto look (registersFrom (l .pointer) n) g) next
-walked look l g (Stops e) = record { over = true; ending = e; device = l; gathered = g }
+walked look d g (Goes next) = record { over = false; ending = Whole; device = next; gathered = g }
+walked look d g (Reads n next) = afterRead (readInto look (registersFrom (d .pointer) n) g) next
+walked look d g (Stops e) = record { over = true; ending = e; device = d; gathered = g }
 
 abbrev pub endedBy : Taken → Ending → Gathering
 endedBy t e = cond (t .ok) (record { ending = e; gathered = t .gathered }) (record { ending = Fails negative; gathered = t .gathered })
@@ -67,7 +67,7 @@ sendingOf g =
 abbrev pub replyIf : Ending → Gathered → Reply
 replyIf Whole g = sendingOf g
 replyIf (Fails c) g = code c
-replyIf Unanswered g = none
+replyIf Unanswered g = noReply
 
 abbrev pub gatheredReply : Gathering → Reply
 gatheredReply g = replyIf (g .ending) (g .gathered)

@@ -111,21 +111,21 @@ fn after_read(t: Taken, next: Device) -> Walked
 }
 
 // One command.
-fn walk(h: Held, l: Device, g: Gathered, c: u8, behind: &[u8]) -> Walked
-    ensures { λ r. ⌜ r ≡ walked (readAt h) l g (commandOf l c (now (behind .entry))) ⌝ }
+fn walk(h: Held, d: Device, g: Gathered, c: u8, behind: &[u8]) -> Walked
+    ensures { λ r. ⌜ r ≡ walked (readAt h) d g (commandOf d c (now (behind .entry))) ⌝ }
 {
-    match packet::obey(l, c, behind) {
+    match packet::obey(d, c, behind) {
         Command::Goes(next) => Walked {
             over: false,
             ending: Ending::Whole,
             device: next,
             gathered: g,
         },
-        Command::Reads(n, next) => after_read(read_on(h, g, l.pointer, n), next),
+        Command::Reads(n, next) => after_read(read_on(h, g, d.pointer, n), next),
         Command::Stops(e) => Walked {
             over: true,
             ending: e,
-            device: l,
+            device: d,
             gathered: g,
         },
     }
@@ -135,7 +135,7 @@ fn walk(h: Held, l: Device, g: Gathered, c: u8, behind: &[u8]) -> Walked
 fn gather(h: Held, commands: &[u8]) -> Gathering
     ensures { λ r. ⌜ r ≡ gathers (readAt h) noneGathered (askedFrom (now (commands .entry)) 0 atFirst) ⌝ }
 {
-    let mut l = Device {
+    let mut d = Device {
         selected: true,
         pointer: 0,
     };
@@ -147,13 +147,13 @@ fn gather(h: Held, commands: &[u8]) -> Gathering
     while at < commands.len() {
         let c = commands[at];
         let next = at + 1;
-        let w = walk(h, l, g, c, &commands[next..]);
+        let w = walk(h, d, g, c, &commands[next..]);
         let gathered = w.gathered;
         if w.over {
             let ending = w.ending;
             return Gathering { ending, gathered };
         }
-        l = w.device;
+        d = w.device;
         g = gathered;
         at = next + packet::parameters(c);
     }

@@ -50,12 +50,12 @@ walk-requires c κs = search needs
 here : (c : tie.After-walk Inv-loop μ-loop) →
     let d = c .before .before .before .before in
     let cs = d .before .before .args .commands .now in
-    c .walk .result ≡ walked (readAt (d .before .before .args .h)) (d .loop .l) (d .loop .g) (commandOf (d .loop .l) (getD cs (d .loop .at) 0) (drop (d .loop .at + 1) cs))
+    c .walk .result ≡ walked (readAt (d .before .before .args .h)) (d .loop .d) (d .loop .g) (commandOf (d .loop .d) (getD cs (d .loop .at) 0) (drop (d .loop .at + 1) cs))
 here c =
     let d = c .before .before .before .before in
     let cs = d .before .before .args .commands .now in
     c .walk .ensures
-    ∙ ap (λ (r : List ℕ). walked (readAt (d .before .before .args .h)) (d .loop .l) (d .loop .g) (commandOf (d .loop .l) (getD cs (d .loop .at) 0) r))
+    ∙ ap (λ (r : List ℕ). walked (readAt (d .before .before .args .h)) (d .loop .d) (d .loop .g) (commandOf (d .loop .d) (getD cs (d .loop .at) 0) r))
     (take-all (length cs - (d .loop .at + 1)) (drop (d .loop .at + 1) cs) (omega (arith, length-drop (d .loop .at + 1) cs)))
 
 returns : tie.Need-returns Inv-loop μ-loop
@@ -65,7 +65,7 @@ returns c =
     let turn = c .before .before in
     let cs = args .commands .now in
     ap (λ (w : Walked). record { ending = w .ending; gathered = w .gathered }) (here turn)
-    ∙ sym (turn-over (readAt (args .h)) cs (loop .at) (omega arith) (loop .l) (loop .g) (ap (λ (w : Walked). w .over) (sym (here turn)) ∙ c .if1 .taken))
+    ∙ sym (turn-over (readAt (args .h)) cs (loop .at) (omega arith) (loop .d) (loop .g) (ap (λ (w : Walked). w .over) (sym (here turn)) ∙ c .if1 .taken))
     ∙ loop .inv
 
 parameters-requires : tie.Need-parameters-requires Inv-loop μ-loop
@@ -89,15 +89,15 @@ loop-again c =
     let cs = args .commands .now in
     let n = c .parameters .result in
     ap (λ (w : Walked). gathers (readAt (args .h)) (w .gathered) (askedFrom (drop (loop .at + 1 + n) cs) 0 (w .device))) (here turn)
-    ∙ ap (λ (n : ℕ). let w = walked (readAt (args .h)) (loop .l) (loop .g) (commandOf (loop .l) (getD cs (loop .at) 0) (drop (loop .at + 1) cs)) in gathers (readAt (args .h)) (w .gathered) (askedFrom (drop (loop .at + 1 + n) cs) 0 (w .device))) (c .parameters .ensures)
-    ∙ sym (turn-on (readAt (args .h)) cs (loop .at) (omega arith) (loop .l) (loop .g) (ap (λ (w : Walked). w .over) (sym (here turn)) ∙ c .before .before .if1 .left))
+    ∙ ap (λ (n : ℕ). let w = walked (readAt (args .h)) (loop .d) (loop .g) (commandOf (loop .d) (getD cs (loop .at) 0) (drop (loop .at + 1) cs)) in gathers (readAt (args .h)) (w .gathered) (askedFrom (drop (loop .at + 1 + n) cs) 0 (w .device))) (c .parameters .ensures)
+    ∙ sym (turn-on (readAt (args .h)) cs (loop .at) (omega arith) (loop .d) (loop .g) (ap (λ (w : Walked). w .over) (sym (here turn)) ∙ c .before .before .if1 .left))
     ∙ loop .inv
 
 returns-2 : tie.Need-returns-2 Inv-loop μ-loop
 returns-2 c =
     let args = c .before .before .before .args in
     let loop = c .before .loop in
-    sym (turn-last (readAt (args .h)) (args .commands .now) (loop .at) (loop .l) (loop .g) (omega arith))
+    sym (turn-last (readAt (args .h)) (args .commands .now) (loop .at) (loop .d) (loop .g) (omega arith))
     ∙ loop .inv
 
 pub gather-spec : {M : Type 1} → statement M

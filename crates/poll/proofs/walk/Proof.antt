@@ -31,7 +31,7 @@ unfolding walked
 returns c =
     let args = c .before .before .before .before .before .args in
     let obey = c .before .before .before .obey in
-    sym (ap (walked (readAt (args .h)) (args .l) (args .g)) (sym (obey .ensures) ∙ c .before .next .given .1))
+    sym (ap (walked (readAt (args .h)) (args .d) (args .g)) (sym (obey .ensures) ∙ c .before .next .given .1))
 
 returns-2 : tie.Need-returns-2
 unfolding walked
@@ -41,14 +41,14 @@ returns-2 c =
     let number = c .before .before .before .n in
     c .after-read .ensures
     ∙ ap (λ (t : Taken). afterRead t (number .given .0 .1 .0)) (c .before .read-on .ensures)
-    ∙ sym (ap (walked (readAt (args .h)) (args .l) (args .g)) (sym (obey .ensures) ∙ number .given .1))
+    ∙ sym (ap (walked (readAt (args .h)) (args .d) (args .g)) (sym (obey .ensures) ∙ number .given .1))
 
 returns-3 : tie.Need-returns-3
 unfolding walked
 returns-3 c =
     let args = c .before .before .before .before .before .args in
     let obey = c .before .before .before .obey in
-    sym (ap (walked (readAt (args .h)) (args .l) (args .g)) (sym (obey .ensures) ∙ c .before .e .given .1))
+    sym (ap (walked (readAt (args .h)) (args .d) (args .g)) (sym (obey .ensures) ∙ c .before .e .given .1))
 
 pub walk-spec : {M : Type 1} → statement M
 walk-spec =
