@@ -1,7 +1,7 @@
 -- Polls, from the contracts: each counts as its hold and its reads, and every register can be polled.
 use Prim.Native.Nat.{ℕ, suc, _*_, _≤_, _<_}
 use mathlib.Core.Path.{_≡_, refl, sym, ap, subst, _∙_}
-use mathlib.Core.Bool.{Bool, true, false, cond, _&&_, true≢false}
+use mathlib.Core.Bool.{Bool, true, false, cond, _&&_}
 use mathlib.Core.List.{List, [], _∷_, map}
 use native.Mathlib.Nat.{zero-add, le-of-suc-le-suc, not-suc-le-zero}
 use borrow.Author.Tests.{le-leb, ltb-true, eqb-true}
@@ -16,6 +16,7 @@ use Rattle.steps.specs.declared.Answer.the-variants.{Done, Refused}
 use Rattle.serial.specs.Places.{put, putWithin}
 use Rattle.card.specs.Cards.{bits24, threeBytes, fieldsBytes}
 use Rattle.address.specs.Addresses.{trackable, untracked, words, byteOf, position, registerOf}
+use Rattle.sample.proofs.Tests.{both-of}
 use Rattle.port.specs.declared.Held.{Held}
 use Rattle.port.specs.Holds.{interval, register, copied}
 use Rattle.port.specs.Reading.{registers, slotOff, look}
@@ -156,18 +157,13 @@ abbrev allBelow : List ℕ → Bool
 allBelow [] = true
 allBelow (y ∷ ys) = ltb y 65536 && allBelow ys
 
-both : (b d : Bool) → b && d ≡ true → (b ≡ true) × (d ≡ true)
-both true true e = (refl, refl)
-both true false e = absurd (true≢false (sym e))
-both false d e = absurd (true≢false (sym e))
-
 below-by : (x : ℕ) (ys : List ℕ) → position x ys < length ys → allBelow ys ≡ true → x < 65536
 unfolding position
 below-by x [] l e = absurd (not-suc-le-zero l)
-below-by x (y ∷ ys) l e = go (eqb y x) refl l (λ k. below-by x ys k (both (ltb y 65536) (allBelow ys) e .1))
+below-by x (y ∷ ys) l e = go (eqb y x) refl l (λ k. below-by x ys k (both-of (ltb y 65536) (allBelow ys) e .1))
   where
     go : (b : Bool) → eqb y x ≡ b → cond b 0 (suc (position x ys)) < suc (length ys) → (position x ys < length ys → x < 65536) → x < 65536
-    go true q l more = subst (λ (n : ℕ). n < 65536) (eqb-true y x q) (ltb-true y 65536 (both (ltb y 65536) (allBelow ys) e .0))
+    go true q l more = subst (λ (n : ℕ). n < 65536) (eqb-true y x q) (ltb-true y 65536 (both-of (ltb y 65536) (allBelow ys) e .0))
     go false q l more = more (le-of-suc-le-suc l)
 
 -- an address that a read takes stands in the table
