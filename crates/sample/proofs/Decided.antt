@@ -9,6 +9,8 @@ use Rattle.sample.proofs.all_in_range.Kinds as all-in-range-k
 use Rattle.sample.proofs.all_in_range.Reads as all-in-range
 use Rattle.sample.proofs.phase_in_range.Kinds as phase-in-range-k
 use Rattle.sample.proofs.phase_in_range.Reads as phase-in-range
+use Rattle.sample.proofs.Clips.unclipped.Kinds as unclipped-k
+use Rattle.sample.proofs.Clips.unclipped.Reads as unclipped
 use Rattle.sample.proofs.Sums.of_at_most.Kinds as of-at-most-k
 use Rattle.sample.proofs.Sums.of_at_most.Reads as of-at-most
 use Rattle.sample.proofs.Sums.none.Kinds as none-k
@@ -24,6 +26,9 @@ mix-decided = record { always = λ κs a. tt; determined = λ κs a p z z′ ws 
 
 pub all-in-range-decided : Decided 1 all-in-range-k.ps all-in-range-k.r all-in-range.Pre all-in-range.Post
 all-in-range-decided = record { always = λ κs a. tt; determined = λ κs a p z z′ ws ws′ q q′. (q ∙ sym q′, refl) }
+
+pub unclipped-decided : Decided 0 unclipped-k.ps unclipped-k.r unclipped.Pre unclipped.Post
+unclipped-decided = record { always = λ κs a. tt; determined = λ κs a p z z′ ws ws′ q q′. (q ∙ sym q′, refl) }
 
 pub none-decided : Decided 0 none-k.ps none-k.r none.Pre none.Post
 none-decided = record { always = λ κs a. tt; determined = λ κs a p z z′ ws ws′ q q′. (q ∙ sym q′, refl) }

@@ -11,17 +11,21 @@ use mir.Val.{SFits}
 use Rattle.number.proofs.Signed.{add-is, abs-is}
 use Rattle.number.proofs.Fits.{within, Size, size-mul}
 use Rattle.range.proofs.Ranges.{size24}
+use Rattle.source.specs.declared.Multipliers.{Multipliers}
+use Rattle.source.specs.Sources.{IA, IB, multipliersOf}
+use Rattle.source.proofs.Blends.{blended-in}
+use Rattle.sample.specs.declared.Inputs.{Inputs}
 use Rattle.sample.specs.declared.Flow.{Flow}
 use Rattle.sample.specs.declared.Clips.{Clips}
 use Rattle.sample.specs.declared.Sums.{Sums}
 use Rattle.number.specs.Sign.{squareOf}
-use Rattle.sample.specs.Sums.{Sample, joined, oneIf, counted, previous, summed, added, addedAll, emptied}
+use Rattle.sample.specs.Sums.{Sample, joined, oneIf, counted, previous, summed, added, addedAll, emptied, noFlow}
 use Rattle.sample.specs.Fields.{field}
-use Rattle.sample.specs.Sample.{voltage, current, phased, voltageClipped, currentClipped}
-use Rattle.sample.proofs.Corrections.{corrected-in, mixed-in}
+use Rattle.sample.specs.Sample.{voltage, phased, voltageClipped, inputClipped, sourceCurrent}
+use Rattle.sample.proofs.Corrections.{corrected-in}
 use mathlib.Core.List.{List, [], _∷_}
 use lib.ListN.{length}
-use Rattle.sample.specs.Inside.{Flowing, Few, Room, Spare, Phased}
+use Rattle.sample.specs.Inside.{Flowing, Few, Room, Spare}
 use Rattle.card.specs.declared.Card.{Card}
 
 -- squares and products of numbers of the range
@@ -51,63 +55,77 @@ pub one-most : (b : Bool) → oneIf b ≤ 1
 one-most true = omega arith
 one-most false = omega arith
 
-pub few-more : (c : Clips) (x y : Bool) (k : ℕ) → Few c k → Few (counted c x y) (k + 1)
+pub few-more : (c : Clips) (x y z : Bool) (k : ℕ) → Few c k → Few (counted c x y z) (k + 1)
 unfolding counted
-few-more c x y k h = record { v = omega (arith, h .v, one-most x); i = omega (arith, h .i, one-most y) }
+few-more c x y z k h = record { v = omega (arith, h .v, one-most x); s1 = omega (arith, h .s1, one-most y); s3 = omega (arith, h .s3, one-most z) }
 
 -- the sums with one sample more
-pub room-more : (s : Sums) (v i : ℤ) (x y : Bool) (raw : ℤ) (k : ℕ) → Room s k → mag v < 8388608 → mag i < 8388608 → Room (summed s v i x y raw) (k + 1)
-unfolding summed
-room-more s v i x y raw k h p q = record {
-  vv = square-more (s .vv) v k p (h .vv);
-  flow = flowing-more (s .flow) v i k (h .flow) p q;
-  clips = few-more (s .clips) x y k (h .clips);
-}
+module _ (s : Sums) (v ia ib : ℤ) (x y z : Bool) (raw : Inputs) (p : mag v < 8388608) (q : mag ia < 8388608) (q′ : mag ib < 8388608) where
+  pub room-more : (k : ℕ) → Room s k → Room (summed s v ia ib x y z raw) (k + 1)
+  unfolding summed
+  room-more k h = record {
+    vv = square-more (s .vv) v k p (h .vv);
+    a = flowing-more (s .a) v ia k (h .a) p q;
+    b = flowing-more (s .b) v ib k (h .b) p q′;
+    clips = few-more (s .clips) x y z k (h .clips);
+  }
+
+  pub spare-more : (k : ℕ) → Spare s (suc k) → Spare (summed s v ia ib x y z raw) k
+  spare-more k h = record { had = h .had + 1; few = omega (arith, h .few); room = room-more (h .had) (h .room) }
+
+flowing-less : (f : Flow) (j k : ℕ) → j ≤ k → Flowing f j → Flowing f k
+flowing-less f j k l h = record { ii = omega (arith, h .ii); vi = omega (arith, h .vi) }
 
 pub room-less : (s : Sums) (j k : ℕ) → j ≤ k → Room s j → Room s k
 room-less s j k l h = record {
   vv = omega (arith, h .vv);
-  flow = record { ii = omega (arith, h .flow .ii); vi = omega (arith, h .flow .vi) };
-  clips = record { v = omega (arith, h .clips .v); i = omega (arith, h .clips .i) };
+  a = flowing-less (s .a) j k l (h .a);
+  b = flowing-less (s .b) j k l (h .b);
+  clips = record { v = omega (arith, h .clips .v); s1 = omega (arith, h .clips .s1); s3 = omega (arith, h .clips .s3) };
 }
 
 pub spare-room : (s : Sums) (k : ℕ) → Spare s k → Room s 4096
 spare-room s k h = room-less s (h .had) 4096 (omega (arith, h .few)) (h .room)
 
-pub spare-more : (s : Sums) (v i : ℤ) (x y : Bool) (raw : ℤ) (k : ℕ) → Spare s (suc k) → mag v < 8388608 → mag i < 8388608 → Spare (summed s v i x y raw) k
-spare-more s v i x y raw k h p q = record { had = h .had + 1; few = omega (arith, h .few); room = room-more s v i x y raw (h .had) (h .room) p q }
-
 pub spare-at : (s : Sums) (j k : ℕ) → j ≡ k → Spare s j → Spare s k
 spare-at s j k e h = rw e at h
 
--- ---- by a card whose PHASE is in its range
+-- ---- by a card and a configuration
 voltage-in : (c : Card) (x : ℤ) → mag (voltage c x) < 8388608
 unfolding voltage
 voltage-in c x = corrected-in x (field c 1) (field c 3)
 
-current-in : (c : Card) (x : ℤ) → mag (current c x) < 8388608
-unfolding current
-current-in c x = corrected-in x (field c 2) (field c 4)
+source-in : (c : Card) (m : Multipliers) (raw before : Inputs) → mag (sourceCurrent c m raw before) < 8388608
+unfolding sourceCurrent
+source-in c m raw before = blended-in m (phased c (raw .s1) (before .s1)) (phased c (raw .s3) (before .s3))
 
-phased-in : (c : Card) → Phased c → (x y : ℤ) → mag (phased c x y) < 8388608
-unfolding phased
-phased-in c h x y = mixed-in (natAbs (field c 5)) (current c x) (current c y) (omega (arith, h .high)) (current-in c x) (current-in c y)
+module _ (c : Card) (g : ℕ) where
+  one-room : (s : Sums) (x : Sample) (k : ℕ) → Room s k → Room (added c g s x) (k + 1)
+  unfolding added
+  one-room s x k r =
+      let now = x .1 in
+      let before = previous s now in
+      let a = multipliersOf IA g in
+      let b = multipliersOf IB g in
+      room-more s (voltage c (x .0)) (sourceCurrent c a now before) (sourceCurrent c b now before)
+      (voltageClipped c (x .0)) (inputClipped c (now .s1)) (inputClipped c (now .s3)) now
+      (voltage-in c (x .0)) (source-in c a now before) (source-in c b now before) k r
 
-one-room : (c : Card) → Phased c → (s : Sums) (x : Sample) (k : ℕ) → Room s k → Room (added c s (x .0) (x .1)) (k + 1)
-unfolding added
-one-room c h s x k r =
-    room-more s (voltage c (x .0)) (phased c (x .1) (previous s (x .1))) (voltageClipped c (x .0)) (currentClipped c (x .1)) (x .1) k r
-    (voltage-in c (x .0)) (phased-in c h (x .1) (previous s (x .1)))
+  pub all-room : (xs : List Sample) (s : Sums) (k : ℕ) → Room s k → Room (addedAll c g s xs) (k + length xs)
+  unfolding addedAll
+  all-room [] s k r = room-less s k (k + 0) (omega arith) r
+  all-room (x ∷ xs) s k r =
+      let more = all-room xs (added c g s x) (k + 1) (one-room s x k r) in
+      room-less (addedAll c g (added c g s x) xs) (k + 1 + length xs) (k + suc (length xs)) (omega arith) more
 
-pub all-room : (c : Card) → Phased c → (xs : List Sample) (s : Sums) (k : ℕ) → Room s k → Room (addedAll c s xs) (k + length xs)
-unfolding addedAll
-all-room c h [] s k r = room-less s k (k + 0) (omega arith) r
-all-room c h (x ∷ xs) s k r = room-less (addedAll c (added c s (x .0) (x .1)) xs) (k + 1 + length xs) (k + suc (length xs)) (omega arith) (all-room c h xs (added c s (x .0) (x .1)) (k + 1) (one-room c h s x k r))
+empty-flow : Flowing noFlow 0
+empty-flow = record { ii = omega arith; vi = omega arith }
 
 pub empty-room : (s : Sums) → Room (emptied s) 0
 unfolding emptied
 empty-room s = record {
   vv = omega arith;
-  flow = record { ii = omega arith; vi = omega arith };
-  clips = record { v = omega arith; i = omega arith };
+  a = empty-flow;
+  b = empty-flow;
+  clips = record { v = omega arith; s1 = omega arith; s3 = omega arith };
 }

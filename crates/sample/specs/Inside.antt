@@ -17,11 +17,13 @@ pub record Flowing (f : Flow) (k : ℕ) : Type 0 where
 -- no more than k were clipped
 pub record Few (c : Clips) (k : ℕ) : Type 0 where
   pub v : c .v ≤ k
-  pub i : c .i ≤ k
+  pub s1 : c .s1 ≤ k
+  pub s3 : c .s3 ≤ k
 
 pub record Room (s : Sums) (k : ℕ) : Type 0 where
   pub vv : s .vv ≤ k * 2 ^ 46
-  pub flow : Flowing (s .flow) k
+  pub a : Flowing (s .a) k
+  pub b : Flowing (s .b) k
   pub clips : Few (s .clips) k
 
 -- k samples more may be added

@@ -8,7 +8,10 @@ use lib.Signed.{_≤ℤ_, _<ℤ_}
 use Rattle.range.specs.Range.{in24, outside24, clipped}
 use Rattle.number.specs.Rounding.{floorDiv}
 use Rattle.card.specs.declared.Card.{Card}
+use Rattle.source.specs.declared.Multipliers.{Multipliers}
+use Rattle.source.specs.Sources.{blended}
 use Rattle.sample.specs.declared.Corrected.{Corrected}
+use Rattle.sample.specs.declared.Inputs.{Inputs}
 use Rattle.sample.specs.Fields.{voffs, ioffs, vgain, igain, phase}
 
 -- every raw sample is in the 24-bit range
@@ -45,17 +48,21 @@ mixed phase now previous = floorDiv ((pos 4096 -ℤ pos phase) *ℤ now +ℤ pos
 unfoldable pub voltage : Card → ℤ → ℤ
 voltage c raw = corrected raw (voffs c) (vgain c)
 
--- the current, corrected but not yet mixed
-unfoldable pub current : Card → ℤ → ℤ
-current c raw = corrected raw (ioffs c) (igain c)
+-- a current input, S1 or S3, corrected but not yet mixed with its previous one
+unfoldable pub input : Card → ℤ → ℤ
+input c raw = corrected raw (ioffs c) (igain c)
 
--- whether the card clips a raw voltage, and a raw current; a mix of two corrected currents is never clipped
+-- whether the card clips a raw voltage, and a raw input; a mix of two corrected inputs is never clipped
 unfoldable pub voltageClipped : Card → ℤ → Bool
 voltageClipped c raw = wasClipped raw (voffs c) (vgain c)
 
-unfoldable pub currentClipped : Card → ℤ → Bool
-currentClipped c raw = wasClipped raw (ioffs c) (igain c)
+unfoldable pub inputClipped : Card → ℤ → Bool
+inputClipped c raw = wasClipped raw (ioffs c) (igain c)
 
--- the current as it is summed, corrected and mixed: the previous one is the previous raw sample corrected with the card now in force
+-- an input, corrected and mixed: the previous one is its previous raw sample corrected with the card now in force
 unfoldable pub phased : Card → ℤ → ℤ → ℤ
-phased c raw before = mixed (phase c) (current c raw) (current c before)
+phased c raw before = mixed (phase c) (input c raw) (input c before)
+
+-- the current of a source with these multipliers, as it is summed: both inputs are corrected and mixed, and then the source is made of them
+unfoldable pub sourceCurrent : Card → Multipliers → Inputs → Inputs → ℤ
+sourceCurrent c m raw before = blended m (phased c (raw .s1) (before .s1)) (phased c (raw .s3) (before .s3))

@@ -1,7 +1,8 @@
 // Samples: what a card makes of a raw one, and what is kept of the running interval's.
 ghost use mathlib.Core.Path.{_≡_};
+ghost use Prim.Native.Nat.{_≤_};
 ghost use Rattle.sample.specs.Sample.{correction, mixed, every24};
-ghost use Rattle.sample.specs.Sums.{emptied, noSums, ofAtMost, phaseInRange};
+ghost use Rattle.sample.specs.Sums.{emptied, noFlow, noClips, noSums, flowWithin, clipsWithin, ofAtMost, phaseInRange};
 use card::Card;
 use card::names::PHASE;
 
@@ -52,6 +53,12 @@ pub fn phase_in_range(c: Card) -> bool
     card::field_in_range(5, f[PHASE] as i64)
 }
 
+// A value for each current input.
+pub struct Inputs {
+    pub s1: i32,
+    pub s3: i32,
+}
+
 // Of one current source: the sum of its squares and of its products with the voltage, and its largest size.
 pub struct Flow {
     pub ii: u64,
@@ -59,19 +66,58 @@ pub struct Flow {
     pub peak: u32,
 }
 
-// How many of an interval's own voltages and currents were clipped.
+// How many of an interval's own voltages and inputs were clipped.
 pub struct Clips {
     pub v: u32,
-    pub i: u32,
+    pub s1: u32,
+    pub s3: u32,
 }
 
-// vv is the sum of the voltage squares; raw is the last raw current, where one was seen.
+// vv is the sum of the voltage squares; a and b are of the sources IA and IB; raw has the last raw inputs, where any were seen.
 pub struct Sums {
     pub vv: u64,
-    pub flow: Flow,
+    pub a: Flow,
+    pub b: Flow,
     pub clips: Clips,
     pub seen: bool,
-    pub raw: i32,
+    pub raw: Inputs,
+}
+
+impl Flow {
+    fn none() -> Flow
+        ensures { λ r. ⌜ r ≡ noFlow ⌝ }
+    {
+        Flow {
+            ii: 0,
+            vi: 0,
+            peak: 0,
+        }
+    }
+
+    // Whether these can be the sums of at most n samples, n no more than an interval can have.
+    fn within(self, n: u32) -> bool
+        requires { ⌜ n ≤ 4096 ⌝ }
+        ensures { λ r. ⌜ r ≡ flowWithin n self ⌝ }
+    {
+        let most = n as u64 * 70368744177664;
+        let z = number::size(self.vi);
+        (self.ii <= most) & (z <= most)
+    }
+}
+
+impl Clips {
+    // No sample was clipped.
+    pub fn unclipped() -> Clips
+        ensures { λ r. ⌜ r ≡ noClips ⌝ }
+    {
+        Clips { v: 0, s1: 0, s3: 0 }
+    }
+
+    fn within(self, n: u32) -> bool
+        ensures { λ r. ⌜ r ≡ clipsWithin n self ⌝ }
+    {
+        (self.v <= n) & (self.s1 <= n) & (self.s3 <= n)
+    }
 }
 
 impl Sums {
@@ -79,16 +125,14 @@ impl Sums {
     pub fn none() -> Sums
         ensures { λ r. ⌜ r ≡ noSums ⌝ }
     {
+        let nothing = Flow::none();
         Sums {
             vv: 0,
-            flow: Flow {
-                ii: 0,
-                vi: 0,
-                peak: 0,
-            },
-            clips: Clips { v: 0, i: 0 },
+            a: nothing,
+            b: nothing,
+            clips: Clips::unclipped(),
             seen: false,
-            raw: 0,
+            raw: Inputs { s1: 0, s3: 0 },
         }
     }
 
@@ -96,17 +140,15 @@ impl Sums {
     pub fn emptied(self) -> Sums
         ensures { λ r. ⌜ r ≡ emptied self ⌝ }
     {
-        let clips = Clips { v: 0, i: 0 };
+        let nothing = Flow::none();
+        let raw = self.raw;
         Sums {
             vv: 0,
-            flow: Flow {
-                ii: 0,
-                vi: 0,
-                peak: 0,
-            },
-            clips,
+            a: nothing,
+            b: nothing,
+            clips: Clips::unclipped(),
             seen: self.seen,
-            raw: self.raw,
+            raw,
         }
     }
 
@@ -116,10 +158,10 @@ impl Sums {
     {
         if n <= 4096 {
             let most = n as u64 * 70368744177664;
-            let f = self.flow;
-            let z = number::size(f.vi);
-            let k = self.clips;
-            return (self.vv <= most) & (f.ii <= most) & (z <= most) & (k.v <= n) & (k.i <= n);
+            let a = self.a.within(n);
+            let b = self.b.within(n);
+            let clips = self.clips.within(n);
+            return (self.vv <= most) & a & b & clips;
         }
         false
     }

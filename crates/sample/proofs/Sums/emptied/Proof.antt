@@ -1,17 +1,18 @@
 -- `emptied` meets its contract.
-use borrow.Author.Needs.{needs}
-use mir.Syntax.{w32}
-use mir.Val.{SFits}
-use mir.Facts.{toZ-ofZ}
 use Rattle.sample.specs.Sums.{emptied}
+use borrow.Author.Needs.{needs}
 use Rattle.sample.proofs.Sums.emptied.Statement.{statement}
 use Rattle.sample.proofs.Sums.emptied.Tie as tie
 
+none-requires : tie.Need-none-requires
+none-requires c κs = search needs
+
+unclipped-requires : tie.Need-unclipped-requires
+unclipped-requires c κs = search needs
+
 returns : tie.Need-returns
 unfolding emptied
-returns c =
-    let h : SFits w32 (c .before .args .self .raw) = search needs in
-    rw (toZ-ofZ h)
+returns c = rw (c .before .before .none .ensures, c .unclipped .ensures)
 
 pub emptied-spec : {M : Type 1} → statement M
-emptied-spec = tie.close (tie.spec returns)
+emptied-spec = tie.close (tie.spec none-requires unclipped-requires returns)

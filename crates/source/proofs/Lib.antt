@@ -1,0 +1,4 @@
+-- Laws of the sources.
+pub mod Figures
+pub mod Blends
+pub mod Decided
