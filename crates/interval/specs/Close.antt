@@ -3,9 +3,10 @@ use Prim.Native.Nat.{ℕ, _+_, _%_, _^_}
 use mathlib.Core.Bool.{Bool}
 use mathlib.Core.List.{List, _∷_}
 use lib.IntN.{ℤ, pos}
-use lib.ListN.{replicate}
+use lib.ListN.{getD, replicate}
 use Rattle.card.specs.declared.Card.{Card}
 use Rattle.serial.specs.Serials.{noSerial}
+use Rattle.source.specs.Sources.{Current, IA, IB}
 use Rattle.sample.specs.declared.Flow.{Flow}
 use Rattle.sample.specs.declared.Sums.{Sums}
 use Rattle.sample.specs.Sums.{noClips}
@@ -33,16 +34,22 @@ sourceAfter c v f n b old = record {
   minus = minusAfter (wattOf c f n) n b (old .minus);
 }
 
--- the seven that can be tracked, in the table's order: VRMS, and the figures of source A
+-- the seven that can be tracked, in the table's order: VRMS, and the figures of IA
 unfoldable pub sevenOf : ℤ → List ℤ → List ℤ
 sevenOf v figures = v ∷ figures
 
--- all registers; `first` at the module's first close
+-- all registers, each source's of its own sums and of what it showed before; `first` at the module's first close
 unfoldable pub registersAfter : Bool → Settings → Card → Sums → ℕ → Registers → Registers
 registersAfter first t c s n old =
     let v = vrmsOf (s .vv) n in
-    let a = sourceAfter c v (s .flow) n (t .b) (old .a) in
-    record { vrms = pos v; a = a; ends = followed first (t .track) (sevenOf (pos v) (a .figures)) (old .ends) }
+    let a = sourceAfter c v (s .a) n (t .b) (old .a) in
+    let b = sourceAfter c v (s .b) n (t .b) (old .b) in
+    record { vrms = pos v; a = a; b = b; ends = followed first (t .track) (sevenOf (pos v) (a .figures)) (old .ends) }
+
+-- the results of a source
+abbrev pub resultsOf : Current → Registers → Source
+resultsOf IA r = r .a
+resultsOf IB r = r .b
 
 -- after 4,294,967,295 comes 0
 unfoldable pub numberAfter : ℕ → ℕ
@@ -62,7 +69,11 @@ abbrev pub noSource : Source
 noSource = record { figures = replicate 6 (pos 0); plus = noEnergy; minus = noEnergy }
 
 abbrev pub noRegisters : Registers
-noRegisters = record { vrms = pos 0; a = noSource; ends = record { low = replicate 6 (pos 0); high = replicate 6 (pos 0) } }
+noRegisters = record { vrms = pos 0; a = noSource; b = noSource; ends = record { low = replicate 6 (pos 0); high = replicate 6 (pos 0) } }
 
 abbrev pub noneClosed : Closed
 noneClosed = record { number = 0; serial = noSerial; clips = noClips; regs = noRegisters }
+
+-- figure k of a source, from 0: IRMS, IPEAK, P, S, PF, crest
+abbrev pub figureOf : Current → ℕ → Closed → ℤ
+figureOf w k z = getD (resultsOf w (z .regs) .figures) k (pos 0)

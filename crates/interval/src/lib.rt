@@ -2,7 +2,7 @@
 ghost use mathlib.Core.Path.{_≡_};
 ghost use Rattle.range.specs.Range.{capped};
 ghost use Rattle.energy.specs.Energies.{advanced};
-ghost use Rattle.interval.specs.Close.{withPlus, withMinus, sourceAfter, sevenOf, registersAfter, closedOf, noneClosed};
+ghost use Rattle.interval.specs.Close.{withPlus, withMinus, sourceAfter, sevenOf, registersAfter, closedOf, noSource, noneClosed};
 use address::WordAddr;
 use card::Card;
 use energy::Energy;
@@ -13,11 +13,12 @@ use sample::Sums;
 use serial::Serial;
 use tracking::Ends;
 
-// n: samples per interval; b: the bucket; track: the words that the six slots track.
+// n: samples per interval; b: the bucket; track: the words that the six slots track; config: what the sources are made of.
 pub struct Settings {
     pub n: u32,
     pub b: u64,
     pub track: [WordAddr; 6],
+    pub config: u8,
 }
 
 // The results of one current source. figures: RMS, peak, active and apparent power, power factor, crest.
@@ -27,9 +28,11 @@ pub struct Source {
     pub minus: Energy,
 }
 
+// vrms is the board's; a and b are the sources IA and IB.
 pub struct Registers {
     pub vrms: i32,
     pub a: Source,
+    pub b: Source,
     pub ends: Ends,
 }
 
@@ -42,6 +45,21 @@ pub struct Closed {
 }
 
 impl Source {
+    // Before any interval has closed.
+    fn none() -> Source
+        ensures { λ r. ⌜ r ≡ noSource ⌝ }
+    {
+        let nothing = Energy {
+            count: 0,
+            remainder: 0,
+        };
+        Source {
+            figures: [0; 6],
+            plus: nothing,
+            minus: nothing,
+        }
+    }
+
     // Its record of energy taken in is lent, and advanced where it lies.
     fn join_plus(self, amount: u64, bucket: u64) -> Source
         ensures { λ r. ⌜ r ≡ withPlus self (advanced (self .plus) amount bucket) ⌝ }
@@ -98,9 +116,8 @@ impl Registers {
     {
         let volts = rules::vrms(s.vv, n);
         let v = volts as i32;
-        let old = self.a;
-        let flow = s.flow;
-        let a = old.after(c, volts, flow, n, t.b);
+        let a = self.a.after(c, volts, s.a, n, t.b);
+        let b = self.b.after(c, volts, s.b, n, t.b);
         let figures = a.figures;
         let seven = seven_of(v, figures);
         let ends = self.ends;
@@ -109,6 +126,7 @@ impl Registers {
         Registers {
             vrms: v,
             a,
+            b,
             ends: e,
         }
     }
@@ -120,21 +138,15 @@ impl Closed {
         ensures { λ r. ⌜ r ≡ noneClosed ⌝ }
     {
         let serial = Serial::none();
-        let nothing = Energy {
-            count: 0,
-            remainder: 0,
-        };
+        let nothing = Source::none();
         Closed {
             number: 0,
             serial,
-            clips: Clips { v: 0, i: 0 },
+            clips: Clips::unclipped(),
             regs: Registers {
                 vrms: 0,
-                a: Source {
-                    figures: [0; 6],
-                    plus: nothing,
-                    minus: nothing,
-                },
+                a: nothing,
+                b: nothing,
                 ends: Ends {
                     low: [0; 6],
                     high: [0; 6],
