@@ -17,7 +17,7 @@ use Rattle.meter.specs.declared.Taken.{Taken}
 use Rattle.meter.specs.Core.{core, samplesOf, meterOf, keptOf, meteringOf}
 
 -- no sum of the running interval can overflow: it is not full, its sums can be those of as many samples as it has, and the PHASE of the card in
--- force and of the one that waits is in its range. Whatever a start and steps make is so (`proofs/Soundness.antt` of crate `aberzhan`), and
+-- force and of the one that waits is in its range. Whatever a start and steps make is so (`proofs/Soundness.antt` of crate `calls`), and
 -- other values of the struct are too, one with a gain of 0 for instance.
 unfoldable pub soundOf : Kept → Bool
 soundOf m =
