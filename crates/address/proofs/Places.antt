@@ -11,7 +11,7 @@ use lib.IntN.{ℤ, pos, negsuc, natAbs}
 use lib.Signed.{ltZ, leZ}
 use borrow.Author.Tests.{leb-true}
 use Rattle.number.proofs.Signed.{ltZ-true, ltZ-false}
-use Rattle.address.specs.Addresses.{position, trackable, untracked, words, byteAddr, wordAddr}
+use Rattle.address.specs.Addresses.{position, trackable, untracked, words, rows, byteAddr, wordAddr}
 
 pub position-at : (w : ℕ) (xs : List ℕ) (k : ℕ) → k < length xs → ((j : ℕ) → j < k → getD xs j 0 ≡ w → ⊥) → getD xs k 0 ≡ w → position w xs ≡ k
 unfolding position
@@ -34,7 +34,7 @@ first-seven k h = sym (List·getD-append trackable untracked 0 k h)
 pub seven-not : (w k : ℕ) → k ≤ 7 → ((j : ℕ) → j < k → getD words j 0 ≡ w → ⊥) → (j : ℕ) → j < k → getD trackable j 0 ≡ w → ⊥
 seven-not w k h f j l e = f j l (sym (first-seven j (omega arith)) ∙ e)
 
-pub bytes-long : length (map (λ (w : ℕ). 3 * w) words) ≡ 21
+pub bytes-long : length (map (λ (w : ℕ). 3 * w) words) ≡ rows
 unfolding words trackable untracked
 bytes-long = refl
 

@@ -7,7 +7,10 @@ pub struct WordAddr(pub u32);
 
 pub struct ByteAddr(pub u64);
 
-const WORDS: [u32; 21] = [
+// How many registers the table has.
+pub const ROWS: usize = 29;
+
+const WORDS: [u32; ROWS] = [
     0x2B,
     0x3E,
     0x46,
@@ -17,6 +20,14 @@ const WORDS: [u32; 21] = [
     0x8B,
     0x8F,
     0x92,
+    0x3F,
+    0x47,
+    0x4C,
+    0x4F,
+    0x66,
+    0x8C,
+    0x95,
+    0x98,
     0x71,
     0x72,
     0x73,
@@ -53,20 +64,20 @@ pub fn place_of(w: WordAddr) -> usize
     7
 }
 
-// Where a byte address stands in the table, or 21.
+// Where a byte address stands in the table, or ROWS.
 pub fn register_of(a: ByteAddr) -> usize
     ensures { λ r. ⌜ r ≡ registerOf a ⌝ }
 {
     let x = a.0;
     let mut k: usize = 0;
-    while k < 21 {
+    while k < ROWS {
         let b = byte_of(WordAddr(WORDS[k]));
         if b.0 == x {
             return k;
         }
         k += 1;
     }
-    21
+    ROWS
 }
 
 // A number as a word address.

@@ -1,4 +1,4 @@
--- Which number a name of document 01 stands for: a field's name its number, a register's name its word address.
+-- Which number a name of documents 01 and 02 stands for: a field's name its number, a register's name its word address.
 use Prim.Native.Nat.{ℕ}
 use Prim.Native.String.{String}
 use mathlib.Core.Bool.{cond}
@@ -21,7 +21,7 @@ fields =
     ∷ ("POFFS", 8)
     ∷ []
 
--- "Registers": the words of `address`, in its order
+-- "Registers", and A5: the words of `address`, in its order
 unfoldable pub registers : List (String × ℕ)
 registers =
     ("VA_RMS", 0x2B)
@@ -33,6 +33,14 @@ registers =
     ∷ ("IA_CREST", 0x8B)
     ∷ ("PA_POS_CNT", 0x8F)
     ∷ ("PA_NEG_CNT", 0x92)
+    ∷ ("IB_RMS", 0x3F)
+    ∷ ("IB_PEAK", 0x47)
+    ∷ ("WATT_B", 0x4C)
+    ∷ ("VA_B", 0x4F)
+    ∷ ("PFB", 0x66)
+    ∷ ("IB_CREST", 0x8C)
+    ∷ ("PB_POS_CNT", 0x95)
+    ∷ ("PB_NEG_CNT", 0x98)
     ∷ ("MIN1", 0x71)
     ∷ ("MIN2", 0x72)
     ∷ ("MIN3", 0x73)

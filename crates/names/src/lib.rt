@@ -1,4 +1,4 @@
-// The names of document 01, and which number each stands for: a card's field its number, a register its word address.
+// The names of documents 01 and 02, and which number each stands for: a card's field its number, a register its word address.
 ghost use mathlib.Core.Path.{_≡_};
 ghost use mathlib.Core.Bool.{true};
 ghost use Prim.Native.Nat.{_+_, _*_, _≤_};
@@ -25,7 +25,7 @@ const FIELDS: [u8; 128] = *b"\
     \x08\x05POFFS         \
 ";
 
-const REGISTERS: [u8; 336] = *b"\
+const REGISTERS: [u8; 464] = *b"\
     \x2B\x06VA_RMS        \
     \x3E\x06IA_RMS        \
     \x46\x07IA_PEAK       \
@@ -35,6 +35,14 @@ const REGISTERS: [u8; 336] = *b"\
     \x8B\x08IA_CREST      \
     \x8F\x0APA_POS_CNT    \
     \x92\x0APA_NEG_CNT    \
+    \x3F\x06IB_RMS        \
+    \x47\x07IB_PEAK       \
+    \x4C\x06WATT_B        \
+    \x4F\x04VA_B          \
+    \x66\x03PFB           \
+    \x8C\x08IB_CREST      \
+    \x95\x0APB_POS_CNT    \
+    \x98\x0APB_NEG_CNT    \
     \x71\x04MIN1          \
     \x72\x04MIN2          \
     \x73\x04MIN3          \

@@ -8,25 +8,30 @@ use lib.ListN.{getD}
 use Rattle.steps.specs.Answers.{OrRefusal, refused, accepted}
 use Rattle.address.specs.declared.WordAddr.{WordAddr}
 use Rattle.address.specs.declared.ByteAddr.{ByteAddr}
+use Rattle.interval.specs.declared.Source.{Source}
 use Rattle.interval.specs.declared.Registers.{Registers}
-use Rattle.address.specs.Addresses.{registerOf}
+use Rattle.address.specs.Addresses.{rows, registerOf}
 use Rattle.address.specs.Slots.{off}
 use Rattle.port.specs.declared.Held.{Held}
 
--- the 21 registers in the table's order: VRMS and the six figures of source A, PA_POS_CNT and PA_NEG_CNT, MIN1 to MIN6, MAX1 to MAX6
-unfoldable pub registers : Registers → List ℤ
-registers r = (r .vrms ∷ r .a .figures) ++ ((pos (r .a .plus .count) ∷ pos (r .a .minus .count) ∷ []) ++ (r .ends .low ++ r .ends .high))
+-- the eight registers of a source: its six figures, and its counts of energy taken in and given back
+unfoldable pub shownOf : Source → List ℤ
+shownOf s = s .figures ++ (pos (s .plus .count) ∷ pos (s .minus .count) ∷ [])
 
--- the register at place k of the table is the MIN or MAX of a slot that is off: MIN1 has place 9, MAX1 place 15
+-- all registers in the table's order: VRMS, IA's eight, IB's eight, MIN1 to MIN6, MAX1 to MAX6
+unfoldable pub registers : Registers → List ℤ
+registers r = r .vrms ∷ (shownOf (r .a) ++ (shownOf (r .b) ++ (r .ends .low ++ r .ends .high)))
+
+-- the register at place k of the table is the MIN or MAX of a slot that is off: MIN1 has place 17, MAX1 place 23
 unfoldable pub slotOff : List WordAddr → ℕ → Bool
-slotOff track k = leb 9 k && eqb (getD track ((k - 9) % 6) off .0) 0
+slotOff track k = leb 17 k && eqb (getD track ((k - 17) % 6) off .0) 0
 
 -- read byte address: 15, 16, 17
 unfoldable pub look : Held → ByteAddr → OrRefusal ℤ
 look h a =
     let k = registerOf a in
     cond (h .any)
-    (cond (ltb k 21)
+    (cond (ltb k rows)
     (cond (slotOff (h .track) k) (refused 17)
     (accepted (getD (registers (h .closed .regs)) k (pos 0))))
     (refused 16))

@@ -1,4 +1,4 @@
--- Document 01's register table, line by line: the byte addresses, and what a read gives of a hold.
+-- Document 01's register table with the words of document 02's A5, line by line: the byte addresses, and what a read gives of a hold.
 use Prim.Native.Nat.{ℕ}
 use mathlib.Core.Bool.{true}
 use mathlib.Core.Path.{_≡_}
@@ -9,40 +9,65 @@ use Rattle.steps.specs.Answers.{OrRefusal, refused, accepted}
 use Rattle.serial.specs.Serials.{noSerial}
 use Rattle.address.specs.declared.WordAddr.{WordAddr}
 use Rattle.sample.specs.Sums.{noClips}
+use Rattle.interval.specs.declared.Source.{Source}
 use Rattle.interval.specs.declared.Registers.{Registers}
 use Rattle.address.specs.Slots.{off}
 use Rattle.port.specs.declared.Held.{Held}
 use Rattle.port.specs.Reading.{look}
 
+-- a source's results, by the ends of its registers' names: PA_POS_CNT and PB_POS_CNT are pos-cnt
+pub record Results : Type 0 where
+  pub rms : ℤ
+  pub peak : ℤ
+  pub watt : ℤ
+  pub va : ℤ
+  pub pf : ℤ
+  pub crest : ℤ
+  pub pos-cnt : ℕ
+  pub neg-cnt : ℕ
+  pub pos-remainder : ℕ
+  pub neg-remainder : ℕ
+
+abbrev pub sourceOf : Results → Source
+sourceOf i = record {
+  figures = i .rms ∷ i .peak ∷ i .watt ∷ i .va ∷ i .pf ∷ i .crest ∷ [];
+  plus = record { count = i .pos-cnt; remainder = i .pos-remainder };
+  minus = record { count = i .neg-cnt; remainder = i .neg-remainder };
+}
+
 -- for any values of the registers
-module _ (va-rms ia-rms ia-peak watt-a va-a pfa ia-crest : ℤ) (pos-cnt neg-cnt plus-remainder minus-remainder : ℕ)
-    (min1 min2 min3 min4 min5 min6 max1 max2 max3 max4 max5 max6 : ℤ) where
+module _ (va-rms : ℤ) (ia ib : Results) (min1 min2 min3 min4 min5 min6 max1 max2 max3 max4 max5 max6 : ℤ) where
   abbrev pub values : Registers
   values = record {
     vrms = va-rms;
-    a = record {
-      figures = ia-rms ∷ ia-peak ∷ watt-a ∷ va-a ∷ pfa ∷ ia-crest ∷ [];
-      plus = record { count = pos-cnt; remainder = plus-remainder };
-      minus = record { count = neg-cnt; remainder = minus-remainder };
-    };
+    a = sourceOf ia;
+    b = sourceOf ib;
     ends = record { low = min1 ∷ min2 ∷ min3 ∷ min4 ∷ min5 ∷ min6 ∷ []; high = max1 ∷ max2 ∷ max3 ∷ max4 ∷ max5 ∷ max6 ∷ [] };
   }
 
   abbrev pub held : List WordAddr → Held
   held track = record { any = true; closed = record { number = 1; serial = noSerial; clips = noClips; regs = values }; track = track }
 
-  -- the nine registers that are no MIN or MAX
+  -- the registers that are no MIN or MAX: VA_RMS; of each source RMS, PEAK, WATT, VA, PF, CREST, POS_CNT and NEG_CNT
   abbrev pub plainTable : List (ℕ × ℤ)
   plainTable =
       (0x81, va-rms)
-      ∷ (0xBA, ia-rms)
-      ∷ (0xD2, ia-peak)
-      ∷ (0xE1, watt-a)
-      ∷ (0xEA, va-a)
-      ∷ (0x12F, pfa)
-      ∷ (0x1A1, ia-crest)
-      ∷ (0x1AD, pos pos-cnt)
-      ∷ (0x1B6, pos neg-cnt)
+      ∷ (0xBA, ia .rms)
+      ∷ (0xD2, ia .peak)
+      ∷ (0xE1, ia .watt)
+      ∷ (0xEA, ia .va)
+      ∷ (0x12F, ia .pf)
+      ∷ (0x1A1, ia .crest)
+      ∷ (0x1AD, pos (ia .pos-cnt))
+      ∷ (0x1B6, pos (ia .neg-cnt))
+      ∷ (0xBD, ib .rms)
+      ∷ (0xD5, ib .peak)
+      ∷ (0xE4, ib .watt)
+      ∷ (0xED, ib .va)
+      ∷ (0x132, ib .pf)
+      ∷ (0x1A4, ib .crest)
+      ∷ (0x1BF, pos (ib .pos-cnt))
+      ∷ (0x1C8, pos (ib .neg-cnt))
       ∷ []
 
   -- MIN1 to MIN6 and MAX1 to MAX6

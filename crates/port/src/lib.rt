@@ -3,13 +3,16 @@ ghost use mathlib.Core.Path.{_≡_};
 ghost use Prim.Native.Nat.{_<_};
 ghost use lib.IntN.{pos};
 ghost use lib.ListN.{getD};
+ghost use Rattle.address.specs.Addresses.{rows};
 ghost use Rattle.port.specs.Holds.{nothingHeld, copied};
-ghost use Rattle.port.specs.Reading.{registers, slotOff, look};
+ghost use Rattle.port.specs.Reading.{shownOf, registers, slotOff, look};
 ghost use Rattle.port.specs.Answers.{copying, looked};
 use address::ByteAddr;
+use address::ROWS;
 use address::WordAddr;
 use interval::Closed;
 use interval::Registers;
+use interval::Source;
 use steps::Answer;
 
 // An interval as it was closed last when the port held, with the words that its slots track. any: whether anything is held; where not, all is
@@ -32,14 +35,21 @@ pub enum Reading {
     Refused(u8),
 }
 
+// Where IB_RMS, MIN1 and MAX1 stand in the table.
+const IB_RMS: usize = 9;
+
+const MIN1: usize = 17;
+
+const MAX1: usize = 23;
+
 // Whether the register at place k of the table is the MIN or MAX of a slot that is off.
 fn slot_off(track: [WordAddr; 6], k: usize) -> bool
     ensures { λ r. ⌜ r ≡ slotOff track k ⌝ }
 {
-    if k < 9 {
+    if k < MIN1 {
         return false;
     }
-    let w = track[(k - 9) % 6];
+    let w = track[(k - MIN1) % 6];
     w.0 == 0
 }
 
@@ -51,30 +61,41 @@ fn of_six(six: [i32; 6], k: usize) -> i64
     six[k] as i64
 }
 
+// The register at place k of the eight of a source.
+fn shown(s: Source, k: usize) -> i64
+    requires { ⌜ k < 8 ⌝ }
+    ensures { λ x. ⌜ x ≡ getD (shownOf s) k (pos 0) ⌝ }
+{
+    if k < 6 {
+        let figures = s.figures;
+        return of_six(figures, k);
+    }
+    if k == 6 {
+        return s.plus.count as i64;
+    }
+    s.minus.count as i64
+}
+
 // The register at place k of the table.
 fn register(r: Registers, k: usize) -> i64
-    requires { ⌜ k < 21 ⌝ }
+    requires { ⌜ k < rows ⌝ }
     ensures { λ x. ⌜ x ≡ getD (registers r) k (pos 0) ⌝ }
 {
     if k == 0 {
         return r.vrms as i64;
     }
-    if k < 7 {
-        let figures = r.a.figures;
-        return of_six(figures, k - 1);
+    if k < IB_RMS {
+        return shown(r.a, k - 1);
     }
-    if k == 7 {
-        return r.a.plus.count as i64;
+    if k < MIN1 {
+        return shown(r.b, k - IB_RMS);
     }
-    if k == 8 {
-        return r.a.minus.count as i64;
-    }
-    if k < 15 {
+    if k < MAX1 {
         let low = r.ends.low;
-        return of_six(low, k - 9);
+        return of_six(low, k - MIN1);
     }
     let high = r.ends.high;
-    of_six(high, k - 15)
+    of_six(high, k - MAX1)
 }
 
 impl Held {
@@ -117,7 +138,7 @@ impl Held {
     {
         if self.any {
             let k = address::register_of(address);
-            if k < 21 {
+            if k < ROWS {
                 let track = self.track;
                 if slot_off(track, k) {
                     return Reading::Refused(17);

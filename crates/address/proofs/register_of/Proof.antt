@@ -7,16 +7,16 @@ use native.Mathlib.Omega.{arith}
 use borrow.Author.Needs.{needs}
 use borrow.Author.Count.{below-none, below-more}
 use Rattle.address.specs.declared.ByteAddr.{ByteAddr}
-use Rattle.address.specs.Addresses.{registerOf, byteOf, words, trackable, untracked}
+use Rattle.address.specs.Addresses.{registerOf, byteOf, words, rows, trackable, untracked}
 use Rattle.address.proofs.Places.{position-at, position-none, bytes-long}
 use Rattle.address.proofs.register_of.Statement.{statement}
 use Rattle.address.proofs.register_of.Tie as tie
 
 abbrev Inv-loop : tie.InvT-loop
-Inv-loop x k₀ k = (k ≤ 21) × ((j : ℕ) → j < k → getD (map (λ (w : ℕ). 3 * w) words) j 0 ≡ x → ⊥)
+Inv-loop x k₀ k = (k ≤ rows) × ((j : ℕ) → j < k → getD (map (λ (w : ℕ). 3 * w) words) j 0 ≡ x → ⊥)
 
 abbrev μ-loop : tie.MeasureT-loop
-μ-loop x k₀ k = 21 - k
+μ-loop x k₀ k = rows - k
 
 loop-holds : tie.Need-loop-holds Inv-loop μ-loop
 loop-holds c = (search needs, below-none _)

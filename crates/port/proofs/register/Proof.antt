@@ -5,14 +5,17 @@ use lib.ListN.{length}
 use mir.Facts.{toZ-ofZ}
 use mir.Syntax.{w32, w64}
 use mir.Val.{SFits}
-use Rattle.number.proofs.Fits.{widen, read32}
-use Rattle.port.proofs.Registers.{at-vrms, at-figure, at-plus, at-minus, at-low, at-high}
+use Rattle.number.proofs.Fits.{widen}
+use Rattle.port.proofs.Registers.{at-vrms, at-a, at-b, at-low, at-high}
 use borrow.Author.Needs.{needs, sfits-of}
 use Rattle.port.proofs.register.Statement.{statement}
 use Rattle.port.proofs.register.Tie as tie
 
-figures : (c : tie.Start) → length (c .args .r .a .figures) ≡ 6
-figures c = search needs
+figures-a : (c : tie.Start) → length (c .args .r .a .figures) ≡ 6
+figures-a c = search needs
+
+figures-b : (c : tie.Start) → length (c .args .r .b .figures) ≡ 6
+figures-b c = search needs
 
 low : (c : tie.Start) → length (c .args .r .ends .low) ≡ 6
 low c = search needs
@@ -26,53 +29,42 @@ returns : tie.Need-returns
 returns c =
     let s = c .before .before .before in
     let h : SFits w32 (s .args .r .vrms) = search needs in
-    rw (toZ-ofZ h, toZ-ofZ (widen h)) (at-vrms (s .args .r) (s .args .k) (figures s) (low s) (c .before .before .if1 .taken))
+    rw (toZ-ofZ h, toZ-ofZ (widen h)) (at-vrms (s .args .r) (s .args .k) (figures-a s) (figures-b s) (low s) (c .before .before .if1 .taken))
 
-sub-of-six : tie.Need-sub-of-six
-sub-of-six c = search needs
+sub-shown : tie.Need-sub-shown
+sub-shown c = search needs
 
-of-six-requires : tie.Need-of-six-requires
-of-six-requires c κs = search needs
+shown-requires : tie.Need-shown-requires
+shown-requires c κs = search needs
 
 returns-2 : tie.Need-returns-2
 returns-2 c =
-    let s = c .before .before .before .before in
-    toZ-ofZ {w = w64} (sfits-of (c .of-six .ok)) ∙ c .of-six .ensures ∙ at-figure (s .args .r) (s .args .k) (figures s) (low s) (omega arith) (omega arith)
+    let s = c .before .before .before in
+    toZ-ofZ {w = w64} (sfits-of (c .shown .ok)) ∙ c .shown .ensures ∙ at-a (s .args .r) (s .args .k) (figures-a s) (figures-b s) (low s) (omega arith) (omega arith)
 
-cast-result-2 : tie.Need-cast-result-2
-cast-result-2 c = search needs
+shown-requires-2 : tie.Need-shown-requires-2
+shown-requires-2 c κs = search needs
 
 returns-3 : tie.Need-returns-3
 returns-3 c =
     let s = c .before .before .before .before in
-    read32 (s .args .r .a .plus .count) (search needs) ∙ at-plus (s .args .r) (s .args .k) (figures s) (low s) (omega arith)
+    toZ-ofZ {w = w64} (sfits-of (c .shown2 .ok)) ∙ c .shown2 .ensures ∙ at-b (s .args .r) (s .args .k) (figures-a s) (figures-b s) (low s) (omega arith) (omega arith)
 
-cast-result-3 : tie.Need-cast-result-3
-cast-result-3 c = search needs
+of-six-requires : tie.Need-of-six-requires
+of-six-requires c κs = search needs
 
 returns-4 : tie.Need-returns-4
 returns-4 c =
-    let s = c .before .before .before .before .before in
-    read32 (s .args .r .a .minus .count) (search needs) ∙ at-minus (s .args .r) (s .args .k) (figures s) (low s) (omega arith)
-
-sub-of-six-2 : tie.Need-sub-of-six-2
-sub-of-six-2 c = search needs
+    let s = c .before .before .before .before .before .before in
+    toZ-ofZ {w = w64} (sfits-of (c .of-six .ok)) ∙ c .of-six .ensures ∙ at-low (s .args .r) (s .args .k) (figures-a s) (figures-b s) (low s) (omega arith) (omega arith)
 
 of-six-requires-2 : tie.Need-of-six-requires-2
 of-six-requires-2 c κs = search needs
 
 returns-5 : tie.Need-returns-5
 returns-5 c =
-    let s = c .before .before .before .before .before .before .before in
-    toZ-ofZ {w = w64} (sfits-of (c .of-six2 .ok)) ∙ c .of-six2 .ensures ∙ at-low (s .args .r) (s .args .k) (figures s) (low s) (omega arith) (omega arith)
-
-of-six-requires-3 : tie.Need-of-six-requires-3
-of-six-requires-3 c κs = search needs
-
-returns-6 : tie.Need-returns-6
-returns-6 c =
-    let s = c .before .before .before .before .before .before .before in
-    toZ-ofZ {w = w64} (sfits-of (c .of-six3 .ok)) ∙ c .of-six3 .ensures ∙ at-high (s .args .r) (s .args .k) (figures s) (low s) (omega arith)
+    let s = c .before .before .before .before .before .before in
+    toZ-ofZ {w = w64} (sfits-of (c .of-six2 .ok)) ∙ c .of-six2 .ensures ∙ at-high (s .args .r) (s .args .k) (figures-a s) (figures-b s) (low s) (omega arith)
 
 pub register-spec : {M : Type 1} → statement M
 register-spec =
@@ -80,15 +72,12 @@ register-spec =
     (tie.spec
     cast-result
     returns
-    sub-of-six
-    of-six-requires
+    sub-shown
+    shown-requires
     returns-2
-    cast-result-2
+    shown-requires-2
     returns-3
-    cast-result-3
+    of-six-requires
     returns-4
-    sub-of-six-2
     of-six-requires-2
-    returns-5
-    of-six-requires-3
-    returns-6)
+    returns-5)
