@@ -44,8 +44,8 @@ cast-fresh-2 c =
 cast-fresh-3 : tie.Need-cast-fresh-3
 cast-fresh-3 c =
     let start = c .before .before in
-    let two : _ = both-of _ _ (good c) in
-    let h = config-in (start .args .config) (two .1) in
+    let a = start .args in
+    let h = config-in (a .config) (both-of (numbersOk (a .n) (a .b) && everySlot (a .track)) (configOk (a .config)) (good c) .1) in
     rw (toZ-ofZ (start .fits .config)) (h .0, record { fits = omega (arith, h .1) })
 
 fresh-requires : tie.Need-fresh-requires
