@@ -64,6 +64,14 @@ def several(count, what):
     return f"{count:,} {what}{'' if count == 1 else 's'}"
 
 
+def polled(packet, reply):
+    """The registers of a reply with data, by name and with their values: those that the packet reads."""
+    names = [REGISTERS[byte // 3] for byte in reads_of(packet)]
+    if len(reply) != 3 * len(names) + 3:
+        raise Wrong(f"the packet reads {several(len(names), 'register')}")
+    return [(name, int.from_bytes(reply[2 + 3 * k:5 + 3 * k], "little", signed=name not in COUNTS)) for k, name in enumerate(names)]
+
+
 class Card:
     """A card of a session: its fields, those that are not told yet, where it was committed and from which sample on it counts."""
 
@@ -301,12 +309,12 @@ class Session:
             self.say("reader 1", f"poll: {CODES[reply[0]] if reply else 'no reply'}")
             return
         _, _, count, card = self.held[1] = self.last_closed()
-        registers = [REGISTERS[byte // 3] for byte in reads_of(bytes.fromhex("".join(packet)))]
-        if len(reply) != 3 * len(registers) + 3:
-            raise Wrong(f"{self.line[:80]}: answered {self.answer[:80]!r}, but the packet reads {several(len(registers), 'register')}")
+        try:
+            registers = polled(bytes.fromhex("".join(packet)), reply)
+        except Wrong as why:
+            raise Wrong(f"{self.line[:80]}: answered {self.answer[:80]!r}, but {why}") from why
         self.say("reader 1", f"poll: interval {count}, card {card.serial}", card.colour[0], card)
-        for k, name in enumerate(registers):
-            value = int.from_bytes(reply[2 + 3 * k:5 + 3 * k], "little", signed=name not in COUNTS)
+        for name, value in registers:
             self.say("reader 1", f"{name} {value:,}", INK, card)
 
 
