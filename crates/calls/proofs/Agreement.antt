@@ -16,7 +16,7 @@ use Rattle.card.specs.declared.Card.{Card}
 use Rattle.address.specs.declared.ByteAddr.{ByteAddr}
 use Rattle.interval.specs.declared.Closed.{Closed}
 use Rattle.sample.specs.Sample.{every24}
-use Rattle.sample.specs.Sums.{Sample, samplesIn}
+use Rattle.sample.specs.Sums.{Sample, samplesIn, sameLength}
 use Rattle.alarm.specs.declared.Watch.{Watch}
 use Rattle.alarm.specs.Alarms.{both, clearing, answered as watchAnswered, resetOf as watchReset}
 use Rattle.halfcycle.proofs.Tests.{good-yes}
@@ -48,18 +48,18 @@ blocked m q =
     let r = answered (m .meter) (watchOf m) q in
     record { answer = r .answer; after = withMeter (r .after) (withWatch (both (r .watch) (voltsIn (watchOf m) q)) m) }
 
-block-by : (m : Module) (v i : List ℤ) (q : OrRefusal (Metering core × List Closed)) →
-    fromStep (blocked m q) ≡ from m (andThen q (didBlock aberzhan (v, i) (stateOf m)))
-block-by m v i (refused n) = refl
-block-by m v i (accepted r) = refl
+block-by : (m : Module) (v s1 s3 : List ℤ) (q : OrRefusal (Metering core × List Closed)) →
+    fromStep (blocked m q) ≡ from m (andThen q (didBlock aberzhan (v, s1, s3) (stateOf m)))
+block-by m v s1 s3 (refused n) = refl
+block-by m v s1 s3 (accepted r) = refl
 
-block-is : (m : Module) (v i : List ℤ) → SoundModule m → blockOf m v i ≡ blocked m (passes core (samplesOf v i) (latest core (meterOf (m .meter))) (meteringOf (m .meter) (watchOf m)))
+block-is : (m : Module) (v s1 s3 : List ℤ) → SoundModule m → blockOf m v s1 s3 ≡ blocked m (passes core (samplesOf v s1 s3) (latest core (meterOf (m .meter))) (meteringOf (m .meter) (watchOf m)))
 unfolding blockOf meterBlock voltsOf
-block-is m v i h = ap (blocked m) (block-passes (m .meter) (watchOf m) v i (h .0) (good-yes (m .watch) (m .volts) (h .1)))
+block-is m v s1 s3 h = ap (blocked m) (block-passes (m .meter) (watchOf m) v s1 s3 (h .0) (good-yes (m .watch) (m .volts) (h .1)))
 
-block-steps : (m : Module) (v i : List ℤ) → SoundModule m → fromStep (blockOf m v i) ≡ from m (step aberzhan (block (v, i)) (stateOf m))
-block-steps m v i h =
-    ap fromStep (block-is m v i h) ∙ block-by m v i (passes core (samplesOf v i) (latest core (meterOf (m .meter))) (meteringOf (m .meter) (watchOf m)))
+block-steps : (m : Module) (v s1 s3 : List ℤ) → SoundModule m → fromStep (blockOf m v s1 s3) ≡ from m (step aberzhan (block (v, s1, s3)) (stateOf m))
+block-steps m v s1 s3 h =
+    ap fromStep (block-is m v s1 s3 h) ∙ block-by m v s1 s3 (passes core (samplesOf v s1 s3) (latest core (meterOf (m .meter))) (meteringOf (m .meter) (watchOf m)))
 
 -- 18, for a sound module
 eighteen-by : (m : Module) (xs : List Sample) (w f : Bool) (x y : Card) →
@@ -69,10 +69,10 @@ eighteen-by m xs false true x y = refl
 eighteen-by m xs false false x y = refl
 
 -- of a block whose samples are well formed: 18 is given exactly when no card is in force and none waits
-pub eighteen : (m : Module) (v i : List ℤ) (xs : List Sample) → SoundModule m → samplesOf v i ≡ accepted xs →
-    blockOf m v i .answer ≡ cond (m .meter .waits || m .meter .forced) Done (Refused 18)
-eighteen m v i xs h e =
-    ap (λ (s : Stepped). s .answer) (block-is m v i h)
+pub eighteen : (m : Module) (v s1 s3 : List ℤ) (xs : List Sample) → SoundModule m → samplesOf v s1 s3 ≡ accepted xs →
+    blockOf m v s1 s3 .answer ≡ cond (m .meter .waits || m .meter .forced) Done (Refused 18)
+eighteen m v s1 s3 xs h e =
+    ap (λ (s : Stepped). s .answer) (block-is m v s1 s3 h)
     ∙ ap (λ (q : OrRefusal (List Sample)). blocked m (passes core q (latest core (meterOf (m .meter))) (meteringOf (m .meter) (watchOf m))) .answer) e
     ∙ eighteen-by m xs (m .meter .waits) (m .meter .forced) (m .meter .waiting) (m .meter .force)
 
@@ -81,8 +81,8 @@ empty-by : (m : Module) (o : Option Card) → blocked m (passes core (accepted [
 empty-by m none = refl
 empty-by m (some c) = refl
 
-pub empty-block : (m : Module) → blockOf m [] [] .after ≡ m
-unfolding blockOf meterBlock voltsOf blockDone samplesOf every24 samplesIn
+pub empty-block : (m : Module) → blockOf m [] [] [] .after ≡ m
+unfolding blockOf meterBlock voltsOf blockDone samplesOf sameLength every24 samplesIn
 empty-block m = empty-by m (nextCard (m .meter) (watchOf m))
 
 -- ---- a reset
@@ -168,7 +168,7 @@ call-does (callCommit p) m h = commit-at m (portAt p)
 call-does (callDrop p) m h = drop-at m (portAt p)
 call-does (callHold p) m h = hold-at m (portAt p)
 call-does (callRead p a) m h = read-at m (portAt p) a
-call-does (callBlock v i) m h = block-steps m v i h
+call-does (callBlock v s1 s3) m h = block-steps m v s1 s3 h
 call-does (callReset mask) m h = reset-steps m mask
 
 -- ---- every step has its call

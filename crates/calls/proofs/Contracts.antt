@@ -48,10 +48,10 @@ use Rattle.aberzhan.proofs.Module.cards.Reads as cards
 -- ---- the contracts
 
 -- `Module::start` may return r
-abbrev pub Starts : ℤ → ℤ → List WordAddr → Asked → Stepped → Type 0
-Starts n b track asked r =
+abbrev pub Starts : ℤ → ℤ → List WordAddr → Asked → ℤ → Stepped → Type 0
+Starts n b track asked config r =
     (κs : Lfts 0) × (a : Dens κs starts-k.ps) × Allowed 0 starts-k.ps starts-k.r starts.Post κs a r
-    × (a .0 ≡ n) × (a .1 .0 ≡ b) × (a .1 .1 .0 ≡ track) × (a .1 .1 .1 .0 ≡ asked)
+    × (a .0 ≡ n) × (a .1 .0 ≡ b) × (a .1 .1 .0 ≡ track) × (a .1 .1 .1 .0 ≡ asked) × (a .1 .1 .1 .1 .0 ≡ config)
 
 -- `Module::cards` of the module m may return r
 abbrev pub Shows : Module → Cards → Type 0
@@ -87,9 +87,9 @@ Allows (callHold p) m o =
 Allows (callRead p b) m o =
     (κs : Lfts 0) × (a : Dens κs reads-k.ps) × (r : Looked) × Allowed 0 reads-k.ps reads-k.r reads.Post κs a r
     × (a .0 ≡ m) × (a .1 .0 ≡ p) × (a .1 .1 .0 ≡ b) × (o ≡ fromRead r)
-Allows (callBlock v i) m o =
-    (κs : Lfts 2) × (a : Dens κs blocks-k.ps) × (r : Stepped) × Allowed 2 blocks-k.ps blocks-k.r blocks.Post κs a r
-    × (a .0 ≡ m) × (now (a .1 .0) ≡ v) × (now (a .1 .1 .0) ≡ i) × (o ≡ fromStep r)
+Allows (callBlock v s1 s3) m o =
+    (κs : Lfts 3) × (a : Dens κs blocks-k.ps) × (r : Stepped) × Allowed 3 blocks-k.ps blocks-k.r blocks.Post κs a r
+    × (a .0 ≡ m) × (now (a .1 .0) ≡ v) × (now (a .1 .1 .0) ≡ s1) × (now (a .1 .1 .1 .0) ≡ s3) × (o ≡ fromStep r)
 Allows (callReset mask) m o =
     (κs : Lfts 0) × (a : Dens κs resets-k.ps) × (r : Stepped) × Allowed 0 resets-k.ps resets-k.r resets.Post κs a r
     × (a .0 ≡ m) × (a .1 .0 ≡ mask) × (o ≡ fromStep r)
@@ -100,8 +100,8 @@ methods = record { Kept = Module; stateOf = stateOf; Call = Call; stepOf = stepO
 
 -- ---- every outcome that they allow
 
-pub start-is : (n b : ℤ) (track : List WordAddr) (asked : Asked) (r : Stepped) → Starts n b track asked r → r ≡ startOf n b track asked
-start-is n b track asked r (κs, a, h, e, f, g, i) = rw (e, f, g, i) at (h .allowed)
+pub start-is : (n b : ℤ) (track : List WordAddr) (asked : Asked) (config : ℤ) (r : Stepped) → Starts n b track asked config r → r ≡ startOf n b track asked config
+start-is n b track asked config r (κs, a, h, e, f, g, i, j) = rw (e, f, g, i, j) at (h .allowed)
 
 pub shown-is : (m : Module) (r : Cards) → Shows m r → r ≡ cardsOf m
 shown-is m r (κs, a, h, e) = rw e at (h .allowed)
@@ -120,7 +120,7 @@ allowed-is (callCommit p) m o (κs, a, r, h, e, f, q) = q ∙ ap fromStep (rw (e
 allowed-is (callDrop p) m o (κs, a, r, h, e, f, q) = q ∙ ap fromStep (rw (e, f) at (h .allowed))
 allowed-is (callHold p) m o (κs, a, r, h, e, f, q) = q ∙ ap fromHold (rw (e, f) at (h .allowed))
 allowed-is (callRead p b) m o (κs, a, r, h, e, f, g, q) = q ∙ ap fromRead (rw (e, f, g) at (h .allowed))
-allowed-is (callBlock v i) m o (κs, a, r, h, e, f, g, q) = q ∙ ap fromStep (rw (e, f, g) at (h .allowed))
+allowed-is (callBlock v s1 s3) m o (κs, a, r, h, e, f, g, i, q) = q ∙ ap fromStep (rw (e, f, g, i) at (h .allowed))
 allowed-is (callReset mask) m o (κs, a, r, h, e, f, q) = q ∙ ap fromStep (rw (e, f) at (h .allowed))
 
 -- so whatever comes of calls, one after the other, is what `program` says

@@ -35,7 +35,7 @@ use Rattle.halfcycle.specs.Inside.{Good}
 use Rattle.halfcycle.proofs.Parts.{good-more}
 use Rattle.halfcycle.proofs.Fresh.{asked-good, lowest-good, cleared-good}
 use Rattle.meter.specs.Core.{core, samplesOf, resetWatch, keptOf}
-use Rattle.meter.specs.Starting.{numbersOk, freshOf, lowestMeter}
+use Rattle.meter.specs.Starting.{numbersOk, configOk, freshOf, lowestMeter}
 use Rattle.steps.specs.declared.Answer.the-variants.{Done, Refused}
 use Rattle.meter.proofs.Agreement.{feeds-sound, wait-sound}
 use Rattle.meter.proofs.Starts.{numbers-in}
@@ -152,21 +152,24 @@ sounds = record {
   edited-sound = edited-phased;
   finished-sound = finished-phased;
   wait-sound = λ c m i j. (wait-sound (m .intervals) c i (j .0), j .1);
-  feed-sound = λ m b r i e. passes-sound (samplesOf (b .0) (b .1)) (latest core (m .intervals)) m r e i;
+  feed-sound = λ m b r i e. passes-sound (samplesOf (b .0) (b .1) (b .2)) (latest core (m .intervals)) m r e i;
   clear-sound = λ m k r i e. reset-sound m k r i e;
 }
 
 -- ---- what a start returns is a fresh module, taken or refused
-module _ (P : Module → Type 0) (f : (n b : ℕ) (track : List WordAddr) (t : Limits) → 1 ≤ n → n ≤ 4096 → Good (freshWatch t) noVolts → P (freshModule (freshOf n b track) (freshWatch t))) where
-  start-by : (n b : ℤ) (track : List WordAddr) (asked : Asked) (s : Bool) → settingsOk n b track asked ≡ s →
-      P (cond {A = Stepped} s (record { answer = Done; after = freshModule (freshOf (natAbs n) (natAbs b) track) (freshWatch (limitsIn asked)) }) (record { answer = Refused 7; after = freshModule lowestMeter lowestWatch }) .after)
-  unfolding settingsOk
-  start-by n b track asked true e =
-      let k = both-of (numbersOk n b && everySlot track) (askedOk asked) e in
-      let r = numbers-in n b (both-of (numbersOk n b) (everySlot track) (k .0) .0) .0 in
-      f (natAbs n) (natAbs b) track (limitsIn asked) (r .1) (r .2) (asked-good asked (k .1))
-  start-by n b track asked false e = f 1 1 (replicate 6 off) lowestLimits (lit≤ tt) (lit≤ tt) lowest-good
+module _ (P : Module → Type 0)
+    (f : (n b : ℕ) (track : List WordAddr) (config : ℕ) (t : Limits) → 1 ≤ n → n ≤ 4096 → Good (freshWatch t) noVolts → P (freshModule (freshOf n b track config) (freshWatch t))) where
+  module _ (n b : ℤ) (track : List WordAddr) (asked : Asked) (config : ℤ) where
+    start-by : (s : Bool) → settingsOk n b track asked config ≡ s →
+        P (cond {A = Stepped} s (record { answer = Done; after = freshModule (freshOf (natAbs n) (natAbs b) track (natAbs config)) (freshWatch (limitsIn asked)) }) (record { answer = Refused 7; after = freshModule lowestMeter lowestWatch }) .after)
+    unfolding settingsOk
+    start-by true e =
+        let j = both-of (numbersOk n b && everySlot track && askedOk asked) (configOk config) e in
+        let k = both-of (numbersOk n b && everySlot track) (askedOk asked) (j .0) in
+        let r = numbers-in n b (both-of (numbersOk n b) (everySlot track) (k .0) .0) .0 in
+        f (natAbs n) (natAbs b) track (natAbs config) (limitsIn asked) (r .1) (r .2) (asked-good asked (k .1))
+    start-by false e = f 1 1 (replicate 6 off) 0 lowestLimits (lit≤ tt) (lit≤ tt) lowest-good
 
-  pub from-start : (n b : ℤ) (track : List WordAddr) (asked : Asked) → P (startOf n b track asked .after)
-  unfolding startOf
-  from-start n b track asked = start-by n b track asked (settingsOk n b track asked) refl
+    pub from-start : P (startOf n b track asked config .after)
+    unfolding startOf
+    from-start = start-by (settingsOk n b track asked config) refl

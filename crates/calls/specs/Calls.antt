@@ -51,7 +51,7 @@ pub data Call : Type 0 where
   callWrite : ℤ → ℤ → ℤ → Call  -- port, field, value
   callCommit callDrop callHold : ℤ → Call  -- port
   callRead : ℤ → ByteAddr → Call  -- port, byte address
-  callBlock : List ℤ → List ℤ → Call  -- voltage, current
+  callBlock : List ℤ → List ℤ → List ℤ → Call  -- voltage, S1, S3
   callReset : ℤ → Call  -- mask
 
 -- the step that a call asks for, and a call that asks for a step
@@ -62,7 +62,7 @@ stepOf (callCommit p) = atPort (portAt p) commit
 stepOf (callDrop p) = atPort (portAt p) dropCard
 stepOf (callHold p) = atPort (portAt p) (hold tt)
 stepOf (callRead p a) = atPort (portAt p) (read a)
-stepOf (callBlock v i) = block (v, i)
+stepOf (callBlock v s1 s3) = block (v, s1, s3)
 stepOf (callReset mask) = reset mask
 
 -- (2 stands for every number that is no port)
@@ -78,7 +78,7 @@ callOf (atPort o commit) = callCommit (numberOf o)
 callOf (atPort o dropCard) = callDrop (numberOf o)
 callOf (atPort o (hold k)) = callHold (numberOf o)
 callOf (atPort o (read a)) = callRead (numberOf o) a
-callOf (block b) = callBlock (b .0) (b .1)
+callOf (block b) = callBlock (b .0) (b .1) (b .2)
 callOf (reset mask) = callReset mask
 
 -- ---- what a call returns: the reply and the module after it
@@ -114,7 +114,7 @@ returned (callCommit p) m = fromStep (commitOf m p)
 returned (callDrop p) m = fromStep (dropOf m p)
 returned (callHold p) m = fromHold (holdOf m p)
 returned (callRead p a) m = fromRead (readOf m p a)
-returned (callBlock v i) m = fromStep (blockOf m v i)
+returned (callBlock v s1 s3) m = fromStep (blockOf m v s1 s3)
 returned (callReset mask) m = fromStep (resetOf m mask)
 
 -- calls, one after the other, each with the module that the one before returned

@@ -60,7 +60,7 @@ record Unwatched (z : Module) : Type 0 where
 
 fresh-unwatched : OfFresh Unwatched
 unfolding freshModule
-fresh-unwatched n b track t n1 n2 g = record { means = meant t g }
+fresh-unwatched n b track config t n1 n2 g = record { means = meant t g }
 
 pub every-alarm : EveryAlarm
 every-alarm p =

@@ -18,7 +18,7 @@ use Rattle.meter.specs.Core.{core, withSums, closedWork}
 use Rattle.demands.specs.Intervals.{pieces, intervalFrom, cutBy, EachHas}
 
 -- ---- what samples and a close leave as it was
-pub sums-only : (c : Card) (xs : List Sample) (w : Work) → foldl (core .addSample c) w xs ≡ withSums w (addedAll c (w .sums) xs)
+pub sums-only : (c : Card) (xs : List Sample) (w : Work) → foldl (core .addSample c) w xs ≡ withSums w (addedAll c (w .settings .config) (w .sums) xs)
 unfolding addedAll
 sums-only c [] w = refl
 sums-only c (x ∷ xs) w = sums-only c xs (core .addSample c w x)

@@ -38,7 +38,8 @@ day-is-so = record {
   closes = (refl, refl);
   leaves = (refl, refl);
   cuts = refl;
-  counts = (refl, refl);
+  counts-a = (refl, refl);
+  counts-b = (refl, refl);
   came = refl;
   means = (refl, refl);
 }

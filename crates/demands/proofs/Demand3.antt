@@ -41,11 +41,13 @@ use Rattle.demands.proofs.Turns.{took-ran}
 
 -- ---- what a start returns is a fresh module, taken or refused
 abbrev pub OfFresh : (Module → Type 0) → Type 0
-OfFresh P = (n b : ℕ) (track : List WordAddr) (t : Limits) → 1 ≤ n → n ≤ 4096 → Good (freshWatch t) noVolts → P (freshModule (freshOf n b track) (freshWatch t))
+OfFresh P =
+    (n b : ℕ) (track : List WordAddr) (config : ℕ) (t : Limits) → 1 ≤ n → n ≤ 4096 → Good (freshWatch t) noVolts → P (freshModule (freshOf n b track config) (freshWatch t))
 
 pub of-start : (P : Module → Type 0) → OfFresh P → (p : Program) → P (first p)
 of-start P f p =
-    subst (λ (r : Stepped). P (r .after)) (sym (start-is (p .n) (p .b) (p .track) (p .asked) (p .started) (p .start-allowed))) (from-start P f (p .n) (p .b) (p .track) (p .asked))
+    subst (λ (r : Stepped). P (r .after)) (sym (start-is (p .n) (p .b) (p .track) (p .asked) (p .config) (p .started) (p .start-allowed)))
+    (from-start P f (p .n) (p .b) (p .track) (p .asked) (p .config))
 
 -- the state of a fresh module with this work and this watch
 abbrev freshWith : Module → State aberzhan
@@ -55,18 +57,18 @@ record FreshState (z : Module) : Type 0 where
   begins : stateOf z ≡ freshWith z
   good : SoundState aberzhan sounds (freshWith z)
 
-fresh-good : (n b : ℕ) (track : List WordAddr) (t : Limits) → 1 ≤ n → n ≤ 4096 → Good (freshWatch t) noVolts →
-    SoundState aberzhan sounds (fresh aberzhan (newly core noCard (freshWork n b track) (both (freshWatch t) noVolts)))
+fresh-good : (n b : ℕ) (track : List WordAddr) (config : ℕ) (t : Limits) → 1 ≤ n → n ≤ 4096 → Good (freshWatch t) noVolts →
+    SoundState aberzhan sounds (fresh aberzhan (newly core noCard (freshWork n b track config) (both (freshWatch t) noVolts)))
 unfolding freshOf
-fresh-good n b track t n1 n2 g = record { meter = (fresh-sound n b track n1 n2, g); desks = by }
+fresh-good n b track config t n1 n2 g = record { meter = (fresh-sound n b track config n1 n2, g); desks = by }
   where
-    by : (p : Port) → sounds .OfDesk (on (fresh aberzhan (newly core noCard (freshWork n b track) (both (freshWatch t) noVolts)) .desks) p)
+    by : (p : Port) → sounds .OfDesk (on (fresh aberzhan (newly core noCard (freshWork n b track config) (both (freshWatch t) noVolts)) .desks) p)
     by port0 = shut-phased
     by port1 = shut-phased
 
 fresh-state : OfFresh FreshState
 unfolding freshModule freshOf
-fresh-state n b track t n1 n2 g = record { begins = refl; good = fresh-good n b track t n1 n2 g }
+fresh-state n b track config t n1 n2 g = record { begins = refl; good = fresh-good n b track config t n1 n2 g }
 
 begun : (p : Program) → FreshState (first p)
 begun p = of-start FreshState fresh-state p

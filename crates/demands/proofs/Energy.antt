@@ -5,12 +5,13 @@ use Rattle.steps.specs.Module.{State}
 use Rattle.steps.specs.OneCard.{Interval, gathered, closedAll}
 use Rattle.steps.proofs.Work.{LastingWork, always-work}
 use Rattle.card.specs.declared.Card.{Card}
+use Rattle.source.specs.Sources.{Current, IA, IB}
 use Rattle.energy.specs.declared.Energy.{Energy}
 use Rattle.interval.specs.declared.Settings.{Settings}
 use Rattle.interval.specs.declared.Closed.{Closed}
 use Rattle.rules.specs.Source.{six, figuresOf}
 use Rattle.energy.specs.Energies.{noEnergy}
-use Rattle.interval.specs.Close.{sourceAfter, registersAfter, closedOf, noneClosed}
+use Rattle.interval.specs.Close.{sourceAfter, resultsOf, registersAfter, closedOf, noneClosed}
 use Rattle.alarm.specs.Starting.{freshWatch}
 use Rattle.meter.specs.declared.Work.{Work}
 use Rattle.meter.specs.Core.{core, lastOf, closedWork}
@@ -23,15 +24,24 @@ use Rattle.demands.specs.Program.{first, settings, steps, closes}
 use Rattle.demands.specs.EnergyHistory.{plusWith, minusWith, Counted, EachCounted, EnergyHistory}
 use Rattle.demands.proofs.Demand3.{OfFresh, of-start, module-demand3, closedFrom, one-card-each}
 use Rattle.demands.proofs.Cuts.{sums-only}
+use Rattle.demands.proofs.Beginning.{none-plus, none-minus}
 
--- ---- one close
-close-plus : (c : Card) (w : Work) → lastOf c w .regs .a .plus ≡ plusWith (w .settings) (w .last .regs .a .plus) (lastOf c w)
-unfolding lastOf closedOf registersAfter sourceAfter figuresOf six
-close-plus c w = refl
+-- ---- one close, for each source
+abbrev plusIn : Current → Closed → Energy
+plusIn s z = resultsOf s (z .regs) .plus
 
-close-minus : (c : Card) (w : Work) → lastOf c w .regs .a .minus ≡ minusWith (w .settings) (w .last .regs .a .minus) (lastOf c w)
+abbrev minusIn : Current → Closed → Energy
+minusIn s z = resultsOf s (z .regs) .minus
+
+close-plus : (s : Current) (c : Card) (w : Work) → plusIn s (lastOf c w) ≡ plusWith (w .settings) s (plusIn s (w .last)) (lastOf c w)
 unfolding lastOf closedOf registersAfter sourceAfter figuresOf six
-close-minus c w = refl
+close-plus IA c w = refl
+close-plus IB c w = refl
+
+close-minus : (s : Current) (c : Card) (w : Work) → minusIn s (lastOf c w) ≡ minusWith (w .settings) s (minusIn s (w .last)) (lastOf c w)
+unfolding lastOf closedOf registersAfter sourceAfter figuresOf six
+close-minus IA c w = refl
+close-minus IB c w = refl
 
 closed-settings : (c : Card) (w : Work) → closedWork c w .settings ≡ w .settings
 unfolding closedWork
@@ -48,18 +58,18 @@ module _ (t : Settings) where
       let z = lastOf c w in
       record {
         settings-are = closed-settings c w ∙ i .settings-are;
-        plus =
-            ap (λ (z : Closed). z .regs .a .plus) (closed-last c w)
-            ∙ close-plus c w
-            ∙ ap (λ (t : Settings). plusWith t (w .last .regs .a .plus) z) (i .settings-are)
-            ∙ ap (λ (e : Energy). plusWith t e z) (i .plus)
-            ∙ sym (foldl-append (plusWith t) noEnergy h (z ∷ []));
-        minus =
-            ap (λ (z : Closed). z .regs .a .minus) (closed-last c w)
-            ∙ close-minus c w
-            ∙ ap (λ (t : Settings). minusWith t (w .last .regs .a .minus) z) (i .settings-are)
-            ∙ ap (λ (e : Energy). minusWith t e z) (i .minus)
-            ∙ sym (foldl-append (minusWith t) noEnergy h (z ∷ []));
+        plus = λ s.
+            ap (plusIn s) (closed-last c w)
+            ∙ close-plus s c w
+            ∙ ap (λ (t : Settings). plusWith t s (plusIn s (w .last)) z) (i .settings-are)
+            ∙ ap (λ (e : Energy). plusWith t s e z) (i .plus s)
+            ∙ sym (foldl-append (plusWith t s) noEnergy h (z ∷ []));
+        minus = λ s.
+            ap (minusIn s) (closed-last c w)
+            ∙ close-minus s c w
+            ∙ ap (λ (t : Settings). minusWith t s (minusIn s (w .last)) z) (i .settings-are)
+            ∙ ap (λ (e : Energy). minusWith t s e z) (i .minus s)
+            ∙ sym (foldl-append (minusWith t s) noEnergy h (z ∷ []));
         last = closed-last c w ∙ sym (foldl-append (λ (y z : Closed). z) noneClosed h (z ∷ []));
       }
 
@@ -72,37 +82,48 @@ module _ (t : Settings) where
   }
 
 -- ---- in each closed interval
-each-by : (t : Settings) (c : Card) (w : Work) (h : List Closed) → w .settings ≡ t →
-    EachCounted t (lastOf c w .regs .a .plus) (lastOf c w .regs .a .minus) h → EachCounted t (w .last .regs .a .plus) (w .last .regs .a .minus) (lastOf c w ∷ h)
-each-by t c w h e i = (
-  close-plus c w ∙ ap (λ (t : Settings). plusWith t (w .last .regs .a .plus) (lastOf c w)) e,
-  close-minus c w ∙ ap (λ (t : Settings). minusWith t (w .last .regs .a .minus) (lastOf c w)) e,
-  i,
-)
+module _ (t : Settings) (s : Current) where
+  -- the intervals h follow z
+  abbrev After : Closed → List Closed → Type 0
+  After z h = EachCounted t s (plusIn s z) (minusIn s z) h
 
-pub each-counted : (t : Settings) (is : List (Interval core)) (w : Work) → w .settings ≡ t → EachCounted t (w .last .regs .a .plus) (w .last .regs .a .minus) (closedAll core is w)
-each-counted t [] w e = tt
-each-counted t (i ∷ is) w e =
-    let v = gathered core i w in
-    let s = sums-only (i .card) (i .samples) w in
-    let same : v .settings ≡ t = ap (λ (u : Work). u .settings) s ∙ e in
-    let rest = each-counted t is (closedWork (i .card) v) (closed-settings (i .card) v ∙ same) in
-    subst (λ (z : Closed). EachCounted t (z .regs .a .plus) (z .regs .a .minus) (lastOf (i .card) v ∷ closedAll core is (closedWork (i .card) v))) (ap (λ (u : Work). u .last) s)
-    (each-by t (i .card) v (closedAll core is (closedWork (i .card) v)) same
-    (subst (λ (z : Closed). EachCounted t (z .regs .a .plus) (z .regs .a .minus) (closedAll core is (closedWork (i .card) v))) (closed-last (i .card) v) rest))
+  each-by : (c : Card) (w : Work) (h : List Closed) → w .settings ≡ t → After (lastOf c w) h → After (w .last) (lastOf c w ∷ h)
+  each-by c w h e i = (
+    close-plus s c w ∙ ap (λ (t : Settings). plusWith t s (plusIn s (w .last)) (lastOf c w)) e,
+    close-minus s c w ∙ ap (λ (t : Settings). minusWith t s (minusIn s (w .last)) (lastOf c w)) e,
+    i,
+  )
+
+  pub each-counted : (is : List (Interval core)) (w : Work) → w .settings ≡ t → After (w .last) (closedAll core is w)
+  each-counted [] w e = tt
+  each-counted (i ∷ is) w e =
+      let v = gathered core i w in
+      let z = closedWork (i .card) v in
+      let only = sums-only (i .card) (i .samples) w in
+      let same : v .settings ≡ t = ap (λ (u : Work). u .settings) only ∙ e in
+      let rest = each-counted is z (closed-settings (i .card) v ∙ same) in
+      subst (λ (y : Closed). After y (lastOf (i .card) v ∷ closedAll core is z)) (ap (λ (u : Work). u .last) only)
+      (each-by (i .card) v (closedAll core is z) same (subst (λ (y : Closed). After y (closedAll core is z)) (closed-last (i .card) v) rest))
 
 -- ---- of every program
 record Uncounted (z : Module) : Type 0 where
   at-first : Counted (z .meter .work .settings) (z .meter .work) []
-  each : (is : List (Interval core)) → EachCounted (z .meter .work .settings) noEnergy noEnergy (closedAll core is (z .meter .work))
+  each : (s : Current) (is : List (Interval core)) → EachCounted (z .meter .work .settings) s noEnergy noEnergy (closedAll core is (z .meter .work))
+
+by-source : (w : Work) → w .last ≡ noneClosed → (s : Current) (is : List (Interval core)) → EachCounted (w .settings) s noEnergy noEnergy (closedAll core is w)
+by-source w e s is =
+    let t = w .settings in
+    let h = closedAll core is w in
+    subst (λ (f : Energy). EachCounted t s noEnergy f h) (ap (minusIn s) e ∙ none-minus s)
+    (subst (λ (g : Energy). EachCounted t s g (minusIn s (w .last)) h) (ap (plusIn s) e ∙ none-plus s) (each-counted t s is w refl))
 
 fresh-uncounted : OfFresh Uncounted
 unfolding freshModule freshOf
-fresh-uncounted n b track t n1 n2 g =
-    let z = freshModule (freshOf n b track) (freshWatch t) in
+fresh-uncounted n b track config t n1 n2 g =
+    let z = freshModule (freshOf n b track config) (freshWatch t) in
     record {
-      at-first = record { settings-are = refl; plus = refl; minus = refl; last = refl };
-      each = λ is. each-counted (z .meter .work .settings) is (z .meter .work) refl;
+      at-first = record { settings-are = refl; plus = none-plus; minus = none-minus; last = refl };
+      each = by-source (z .meter .work) refl;
     }
 
 pub energy-history : EnergyHistory
@@ -113,5 +134,5 @@ energy-history p =
       at-end =
           subst (λ (w : Work). Counted t w (closes p)) (ap (λ (s : State aberzhan). s .meter .intervals .work) (sym (module-demand3 p .as-calls .end)))
           (always-work core (lasts t) ports (stateOf (first p)) (steps p) (u .at-first));
-      in-each = subst (EachCounted t noEnergy noEnergy) (sym (one-card-each p)) (u .each (closedFrom p));
+      in-each = λ s. subst (EachCounted t s noEnergy noEnergy) (sym (one-card-each p)) (u .each s (closedFrom p));
     }

@@ -42,7 +42,7 @@ lasts = record {
 
 fresh-shown : OfFresh (λ m. shown (m .meter .work) ≡ none)
 unfolding freshModule freshOf
-fresh-shown n b track t n1 n2 g = refl
+fresh-shown n b track config t n1 n2 g = refl
 
 by-any : (m : Module) (q : Port) (r : Holding) → Holds m (numberOf (some q)) r → (b : Bool) → m .meter .work .any ≡ b →
     Telling (cond b (some (m .meter .work .last)) none) (m .watch .alarms) r

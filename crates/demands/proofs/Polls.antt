@@ -169,9 +169,9 @@ below-by x (y ∷ ys) l e = go (eqb y x) refl l (λ k. below-by x ys k (both-of 
 -- an address that a read takes stands in the table
 read-below : (h : Held) (a : ℕ) (v : ℤ) → readAt h a ≡ accepted v → a < 65536
 unfolding look registerOf byteOf words trackable untracked
-read-below h a v e = go (h .any) (ltb (registerOf (record { 0 = a })) 21) refl e
+read-below h a v e = go (h .any) (ltb (registerOf (record { 0 = a })) 29) refl e
   where
-    go : (any known : Bool) → ltb (registerOf (record { 0 = a })) 21 ≡ known →
+    go : (any known : Bool) → ltb (registerOf (record { 0 = a })) 29 ≡ known →
         cond any (cond known (cond (slotOff (h .track) (registerOf (record { 0 = a }))) (refused 17) (accepted (getD (registers (h .closed .regs)) (registerOf (record { 0 = a })) (pos 0)))) (refused 16)) (refused 15) ≡ accepted v → a < 65536
     go true true q e = below-by a (map (λ (w : ℕ). 3 * w) words) (ltb-true _ _ q) refl
     go true false q e = absurd (subst Read (sym e) tt)

@@ -1,11 +1,10 @@
--- Each closed interval is worked from its card, its samples and the raw current before its first, as documents 01 and 02 (A1) have it for a whole interval.
+-- Each closed interval is worked from its card, its samples and the raw inputs before its first, as documents 01 and 02 (A1, A5) have it for a whole interval.
 use Prim.Native.Nat.{ℕ, _≤_}
 use mathlib.Core.Path.{_≡_, refl, sym, ap, _∙_}
 use mathlib.Core.Bool.{Bool, true, false, cond, not}
 use mathlib.Core.List.{List, [], _∷_, map}
 use mathlib.Core.Option.{Option, none, some}
 use native.Mathlib.Omega.{arith}
-use lib.IntN.{ℤ}
 use lib.ListN.{length}
 use Rattle.steps.specs.Module.{State}
 use Rattle.steps.specs.Shorter.{struck}
@@ -13,6 +12,7 @@ use Rattle.steps.specs.Gauge.{latest}
 use Rattle.steps.specs.OneCard.{Tagged, tagged, Interval, closedAll, samplesFed}
 use Rattle.steps.proofs.AllSamples.{all-fed}
 use Rattle.card.specs.declared.Card.{Card}
+use Rattle.sample.specs.declared.Inputs.{Inputs}
 use Rattle.sample.specs.declared.Sums.{Sums}
 use Rattle.interval.specs.declared.Settings.{Settings}
 use Rattle.interval.specs.declared.Closed.{Closed}
@@ -33,8 +33,8 @@ use Rattle.demands.proofs.Demand3.{OfFresh, of-start, module-demand3, c
 use Rattle.demands.proofs.Cuts.{sums-only, cut-is, each-has}
 
 -- ---- one interval
--- the raw current that was seen last
-abbrev rawOf : Sums → Option ℤ
+-- the raw inputs that were seen last
+abbrev rawOf : Sums → Option Inputs
 rawOf s = cond (s .seen) (some (s .raw)) none
 
 raw-before : (s : Sums) (x : Sample) (xs : List Sample) → previous s (x .1) ≡ rawBefore (rawOf s) (x ∷ xs)
@@ -46,21 +46,21 @@ raw-before s x xs = by (s .seen)
     by false = refl
 
 close-is : (c : Card) (w : Work) (s : Sums) (x : Sample) (xs : List Sample) → w .sums ≡ emptied s → length (x ∷ xs) ≡ w .settings .n →
-    lastOf c (withSums w (addedAll c (w .sums) (x ∷ xs))) ≡ intervalOf (not (w .any)) (w .settings) c (rawBefore (rawOf s) (x ∷ xs)) (x ∷ xs) (w .last)
+    lastOf c (withSums w (addedAll c (w .settings .config) (w .sums) (x ∷ xs))) ≡ intervalOf (not (w .any)) (w .settings) c (rawBefore (rawOf s) (x ∷ xs)) (x ∷ xs) (w .last)
 unfolding lastOf
 close-is c w s x xs e l =
-    ap (λ (z : Sums). closedOf (not (w .any)) (w .settings) c (addedAll c z (x ∷ xs)) (w .settings .n) (w .last)) e
-    ∙ ap (λ (n : ℕ). closedOf (not (w .any)) (w .settings) c (addedAll c (emptied s) (x ∷ xs)) n (w .last)) (sym l)
+    ap (λ (z : Sums). closedOf (not (w .any)) (w .settings) c (addedAll c (w .settings .config) z (x ∷ xs)) (w .settings .n) (w .last)) e
+    ∙ ap (λ (n : ℕ). closedOf (not (w .any)) (w .settings) c (addedAll c (w .settings .config) (emptied s) (x ∷ xs)) n (w .last)) (sym l)
     ∙ closes-whole (not (w .any)) (w .settings) c s x xs (w .last)
-    ∙ ap (λ (r : ℤ). intervalOf (not (w .any)) (w .settings) c r (x ∷ xs) (w .last)) (raw-before s x xs)
+    ∙ ap (λ (r : Inputs). intervalOf (not (w .any)) (w .settings) c r (x ∷ xs) (w .last)) (raw-before s x xs)
 
 raw-is : (c : Card) (w : Work) (s : Sums) (x : Sample) (xs : List Sample) → w .sums ≡ emptied s →
-    rawOf (addedAll c (w .sums) (x ∷ xs)) ≡ some (lastRaw (rawBefore (rawOf s) (x ∷ xs)) (x ∷ xs))
+    rawOf (addedAll c (w .settings .config) (w .sums) (x ∷ xs)) ≡ some (lastRaw (rawBefore (rawOf s) (x ∷ xs)) (x ∷ xs))
 unfolding wholeSums
 raw-is c w s x xs e =
-    ap (λ (z : Sums). rawOf (addedAll c z (x ∷ xs))) e
-    ∙ ap rawOf (sums-are c s x xs)
-    ∙ ap (λ (r : ℤ). some (lastRaw r (x ∷ xs))) (raw-before s x xs)
+    ap (λ (z : Sums). rawOf (addedAll c (w .settings .config) z (x ∷ xs))) e
+    ∙ ap rawOf (sums-are c (w .settings .config) s x xs)
+    ∙ ap (λ (r : Inputs). some (lastRaw r (x ∷ xs))) (raw-before s x xs)
 
 after-close : (c : Card) (w : Work) → (closedWork c w .sums ≡ emptied (w .sums)) × (closedWork c w .any ≡ true) × (closedWork c w .last ≡ lastOf c w) × (closedWork c w .settings ≡ w .settings)
 unfolding closedWork
@@ -74,15 +74,15 @@ module _ (t : Settings) (some-n : 1 ≤ t .n) where
 
   one-more : (c : Card) (x : Sample) (xs : List Sample) (is : List (Interval core)) → length (x ∷ xs) ≡ t .n → From is → From (record { card = c; samples = x ∷ xs } ∷ is)
   one-more c x xs is l rest w s e f =
-      let u = withSums w (addedAll c (w .sums) (x ∷ xs)) in
+      let u = withSums w (addedAll c (w .settings .config) (w .sums) (x ∷ xs)) in
       let a = after-close c u in
       let z : lastOf c u ≡ intervalOf (not (w .any)) t c (rawBefore (rawOf s) (x ∷ xs)) (x ∷ xs) (w .last) =
       close-is c w s x xs f (l ∙ ap (λ (t : Settings). t .n) (sym e))
       ∙ ap (λ (t : Settings). intervalOf (not (w .any)) t c (rawBefore (rawOf s) (x ∷ xs)) (x ∷ xs) (w .last)) e in
       ap (λ (v : Work). lastOf c v ∷ closedAll core is (closedWork c v)) (sums-only c (x ∷ xs) w)
-      ∙ ap (λ (h : List Closed). lastOf c u ∷ h) (rest (closedWork c u) (addedAll c (w .sums) (x ∷ xs)) (a .3 ∙ e) (a .0))
-      ∙ ap (λ (b : Bool). lastOf c u ∷ wholes t (not b) (rawOf (addedAll c (w .sums) (x ∷ xs))) (closedWork c u .last) is) (a .1)
-      ∙ ap (λ (r : Option ℤ). lastOf c u ∷ wholes t false r (closedWork c u .last) is) (raw-is c w s x xs f)
+      ∙ ap (λ (h : List Closed). lastOf c u ∷ h) (rest (closedWork c u) (addedAll c (w .settings .config) (w .sums) (x ∷ xs)) (a .3 ∙ e) (a .0))
+      ∙ ap (λ (b : Bool). lastOf c u ∷ wholes t (not b) (rawOf (addedAll c (w .settings .config) (w .sums) (x ∷ xs))) (closedWork c u .last) is) (a .1)
+      ∙ ap (λ (r : Option Inputs). lastOf c u ∷ wholes t false r (closedWork c u .last) is) (raw-is c w s x xs f)
       ∙ ap (λ (y : Closed). lastOf c u ∷ wholes t false (some (lastRaw (rawBefore (rawOf s) (x ∷ xs)) (x ∷ xs))) y is) (a .2)
       ∙ ap (λ (y : Closed). y ∷ wholes t false (some (lastRaw (rawBefore (rawOf s) (x ∷ xs)) (x ∷ xs))) y is) z
 
@@ -104,7 +104,7 @@ record Outset (z : Module) : Type 0 where
 
 fresh-outset : OfFresh Outset
 unfolding freshModule freshOf emptied
-fresh-outset n b track t n1 n2 g = record { some-n = n1; empty = refl; none-closed = refl; last = refl }
+fresh-outset n b track config t n1 n2 g = record { some-n = n1; empty = refl; none-closed = refl; last = refl }
 
 pub cut-from : (p : Program) → closedFrom p ≡ intervalsOf p
 cut-from p = cut-is (settings p .n) (of-start Outset fresh-outset p .some-n) (samplesWithCards p) (first p .meter .work) refl

@@ -1,7 +1,7 @@
 -- A day at a site, worked through with the module itself: a program of calls by both ports and the sample feed, its shorter sequence, and what
 -- comes of both: a card dropped, one replaced before any sample, a field written twice, a clipped sample, a sag and its reset, a card still open in the
 -- evening. `proofs/Day.antt` computes it. N is 2, the bucket 100; slot 1 tracks VA_RMS, the others are off. Half a cycle is 2 samples, VSAG 3,500,000,
--- VSURGE 4,194,303; sag is sticky, surge is not.
+-- VSURGE 4,194,303; sag is sticky, surge is not. Configuration 0x86: IA is S1, IB half of S3 - S1.
 use Prim.Native.Nat.{ℕ, suc}
 use mathlib.Core.Path.{_≡_}
 use mathlib.Core.Bool.{true, false}
@@ -20,6 +20,8 @@ use Rattle.serial.specs.declared.Serial.{Serial}
 use Rattle.card.specs.declared.Card.{Card}
 use Rattle.address.specs.declared.WordAddr.{WordAddr}
 use Rattle.address.specs.declared.ByteAddr.{ByteAddr}
+use Rattle.source.specs.Sources.{IA, IB}
+use Rattle.sample.specs.declared.Inputs.{Inputs}
 use Rattle.sample.specs.Sums.{noClips}
 use Rattle.alarm.specs.declared.Alarms.{Alarms}
 use Rattle.halfcycle.specs.History.{Came, voltage, reset as cleared, alarmsMeant}
@@ -89,6 +91,13 @@ quarter = pos 2097152
 abbrev pub tooMuch : ℤ
 tooMuch = negsuc 4194304
 
+-- S3 all day
+abbrev pub other : ℤ
+other = pos 21
+
+abbrev pub inputs : ℤ → Inputs
+inputs s1 = record { s1 = s1; s3 = other }
+
 abbrev pub track : List WordAddr
 track = record { 0 = 0x2B } ∷ replicate 5 off
 
@@ -97,13 +106,13 @@ abbrev pub sagBit : ℤ
 sagBit = pos 2097152
 
 abbrev pub site : Module
-site = startOf (pos 2) (pos 100) track (record { w = pos 2; vsag = pos 3500000; vsurge = pos 4194303; sticky = sagBit }) .after
+site = startOf (pos 2) (pos 100) track (record { w = pos 2; vsag = pos 3500000; vsurge = pos 4194303; sticky = sagBit }) (pos 0x86) .after
 
 -- ---- the day: port 0 is the fitter's, port 1 the panel's, where the site's reader works
 
 abbrev pub day : List Call
 day =
-    callBlock (half ∷ []) (pos 60 ∷ [])  -- refused, 18: no card yet
+    callBlock (half ∷ []) (pos 60 ∷ []) (other ∷ [])  -- refused, 18: no card yet
     ∷ callOpen fitter t0417
     ∷ callOpen fitter t0417  -- refused, 9: the port is open
     ∷ callCommit fitter  -- refused, 13: no field is written
@@ -115,7 +124,7 @@ day =
     ++ (callWrite panel (pos 3) (pos 9)
     ∷ callCommit fitter  -- card 0417 waits
     ∷ callHold panel  -- refused, 14: no interval has closed
-    ∷ callBlock (half ∷ half ∷ half ∷ []) (pos 60 ∷ pos 60 ∷ pos 60 ∷ [])  -- closes interval 1, begins interval 2
+    ∷ callBlock (half ∷ half ∷ half ∷ []) (pos 60 ∷ pos 60 ∷ pos 60 ∷ []) (replicate 3 other)  -- closes interval 1, begins interval 2
     ∷ callRead panel (byte 0x81)  -- refused, 15: nothing is held there
     ∷ callHold fitter
     ∷ callDrop panel  -- card 417 is dropped
@@ -125,7 +134,7 @@ day =
     ∷ writes panel (cardEdits t601 4194304)
     ++ (callRead panel (byte 0xE1)
     ∷ callCommit panel  -- card 601 replaces 600, which no sample met
-    ∷ callBlock (quarter ∷ half ∷ half ∷ []) (pos 60 ∷ negsuc 59 ∷ tooMuch ∷ [])  -- closes interval 2, still with card 0417, and interval 3 with card 601
+    ∷ callBlock (quarter ∷ half ∷ half ∷ []) (pos 60 ∷ negsuc 59 ∷ tooMuch ∷ []) (replicate 3 other)  -- closes interval 2, still with card 0417, and interval 3 with card 601
     ∷ callRead fitter (byte 0x1AD)  -- as it was at the fitter's hold
     ∷ callRead fitter (byte 0x154)  -- refused, 16
     ∷ callRead fitter (byte 0x156)  -- refused, 17: slot 2 is off
@@ -136,7 +145,7 @@ day =
     ∷ callReset sagBit  -- the sag of interval 2 is over
     ∷ callOpen fitter t600  -- a card still open in the evening
     ∷ callRead panel (byte 0x153)
-    ∷ callBlock (half ∷ []) (pos 60 ∷ [])  -- begins interval 4
+    ∷ callBlock (half ∷ []) (pos 60 ∷ []) (other ∷ [])  -- begins interval 4
     ∷ callWrite fitter (pos 1) (pos 4) ∷ [])))
 
 -- ---- the shorter day
@@ -150,16 +159,16 @@ at1 op = plain (atPort (some port1) op)
 abbrev pub shorterDay : List (Act aberzhan)
 shorterDay =
     card port0 (openWith t0417 ∷ writeField (pos 4) (pos 5) ∷ edits 1 (fieldsOf 2097152))
-    ∷ plain (block (half ∷ half ∷ half ∷ [], pos 60 ∷ pos 60 ∷ pos 60 ∷ []))
+    ∷ plain (block (half ∷ half ∷ half ∷ [], pos 60 ∷ pos 60 ∷ pos 60 ∷ [], replicate 3 other))
     ∷ at0 (hold tt) ∷ at0 (read (byte 0x1AD))
     ∷ at1 (hold tt) ∷ at1 (read (byte 0xE1))
     ∷ card port0 (cardEdits t600 1)
     ∷ card port1 (cardEdits t601 4194304)
-    ∷ plain (block (quarter ∷ half ∷ half ∷ [], pos 60 ∷ negsuc 59 ∷ tooMuch ∷ []))
+    ∷ plain (block (quarter ∷ half ∷ half ∷ [], pos 60 ∷ negsuc 59 ∷ tooMuch ∷ [], replicate 3 other))
     ∷ at1 (hold tt) ∷ at1 (read (byte 0x1B6)) ∷ at1 (read (byte 0x153))
     ∷ plain (reset sagBit)
     ∷ at0 (edit (openWith t600))
-    ∷ plain (block (half ∷ [], pos 60 ∷ []))
+    ∷ plain (block (half ∷ [], pos 60 ∷ [], other ∷ []))
     ∷ at0 (edit (writeField (pos 1) (pos 4))) ∷ []
 
 -- ---- what comes of both, worked out by hand from documents 01 and 02
@@ -184,7 +193,7 @@ slot1 v = pos v ∷ replicate 5 (pos 0)
 abbrev pub energy : ℕ → ℕ → Energy
 energy count rest = record { count = count; remainder = rest }
 
--- P is 30: 60 joins the remainder
+-- P of IA is 30: 60 joins the remainder. IB is half of 21 - 60, -20: its P is -10, and 20 joins the other remainder
 abbrev pub interval1 : Closed
 interval1 = record {
   number = 1;
@@ -193,11 +202,12 @@ interval1 = record {
   regs = record {
     vrms = half;
     a = record { figures = pos 60 ∷ pos 60 ∷ pos 30 ∷ pos 30 ∷ pos 4194304 ∷ pos 65536 ∷ []; plus = energy 0 60; minus = energy 0 0 };
+    b = record { figures = pos 20 ∷ pos 20 ∷ negsuc 9 ∷ pos 10 ∷ negsuc 4194303 ∷ pos 65536 ∷ []; plus = energy 0 0; minus = energy 0 20 };
     ends = record { low = slot1 4194304; high = slot1 4194304 };
   };
 }
 
--- P is 22, S 23: 44 makes one bucket and 4
+-- P of IA is 22, S 23: 44 makes one bucket and 4. P of IB is -7, from -7.5
 abbrev pub interval2 : Closed
 interval2 = record {
   number = 2;
@@ -206,23 +216,30 @@ interval2 = record {
   regs = record {
     vrms = pos 3315888;
     a = record { figures = pos 60 ∷ pos 60 ∷ pos 22 ∷ pos 23 ∷ pos 4011942 ∷ pos 65536 ∷ []; plus = energy 1 4; minus = energy 0 0 };
+    b = record { figures = pos 20 ∷ pos 20 ∷ negsuc 6 ∷ pos 7 ∷ negsuc 4194303 ∷ pos 65536 ∷ []; plus = energy 0 0; minus = energy 0 34 };
     ends = record { low = slot1 3315888; high = slot1 4194304 };
   };
 }
 
 -- the current is doubled by card 601 and turned round, -120 and -8,388,610, which is clipped to -8,388,608: P is -2,097,182, and 4,194,364 is
--- 41,943 buckets and 64 of the other direction
+-- 41,943 buckets and 64 of the other direction. IB is half of 42 + 120, 81, and half of 42 + 8,388,608: its P is 1,048,601, and 2,097,202 is 20,972
+-- buckets and 2
 abbrev pub interval3 : Closed
 interval3 = record {
   number = 3;
   serial = s601;
-  clips = record { v = 0; i = 1 };
+  clips = record { v = 0; s1 = 1; s3 = 0 };
   regs = record {
     vrms = half;
     a = record {
       figures = pos 5931641 ∷ pos 8388607 ∷ negsuc 2097181 ∷ pos 2965820 ∷ negsuc 2965863 ∷ pos 92681 ∷ [];
       plus = energy 1 4;
       minus = energy 41943 64;
+    };
+    b = record {
+      figures = pos 2965835 ∷ pos 4194325 ∷ pos 1048601 ∷ pos 1482917 ∷ pos 2965878 ∷ pos 92681 ∷ [];
+      plus = energy 20972 2;
+      minus = energy 0 34;
     };
     ends = record { low = slot1 3315888; high = slot1 4194304 };
   };
@@ -236,7 +253,7 @@ dayHeard = record {
   on0 = (hold tt, interval 1 s0417 noClips surgeAlone) ∷ (read (byte 0x1AD), register (pos 0)) ∷ [];
   on1 =
       (hold tt, interval 1 s0417 noClips surgeAlone) ∷ (read (byte 0xE1), register (pos 30))
-      ∷ (hold tt, interval 3 s601 (record { v = 0; i = 1 }) sagToo) ∷ (read (byte 0x1B6), register (pos 41943)) ∷ (read (byte 0x153), register (pos 3315888)) ∷ [];
+      ∷ (hold tt, interval 3 s601 (record { v = 0; s1 = 1; s3 = 0 }) sagToo) ∷ (read (byte 0x1B6), register (pos 41943)) ∷ (read (byte 0x153), register (pos 3315888)) ∷ [];
 }
 
 abbrev pub card601 : Card
@@ -245,9 +262,9 @@ card601 = record { serial = s601; fields = fieldsOf 4194304 }
 -- three intervals, each with one card
 abbrev pub dayIntervals : List (Interval core)
 dayIntervals =
-    record { card = record { serial = s0417; fields = fieldsOf 2097152 }; samples = (half, pos 60) ∷ (half, pos 60) ∷ [] }
-    ∷ record { card = record { serial = s0417; fields = fieldsOf 2097152 }; samples = (half, pos 60) ∷ (quarter, pos 60) ∷ [] }
-    ∷ record { card = card601; samples = (half, negsuc 59) ∷ (half, tooMuch) ∷ [] }
+    record { card = record { serial = s0417; fields = fieldsOf 2097152 }; samples = (half, inputs (pos 60)) ∷ (half, inputs (pos 60)) ∷ [] }
+    ∷ record { card = record { serial = s0417; fields = fieldsOf 2097152 }; samples = (half, inputs (pos 60)) ∷ (quarter, inputs (pos 60)) ∷ [] }
+    ∷ record { card = card601; samples = (half, inputs (negsuc 59)) ∷ (half, inputs tooMuch) ∷ [] }
     ∷ []
 
 -- the module in the evening, one sample into interval 4
@@ -260,8 +277,15 @@ evening = record {
     force = card601;
     taken = 1;
     work = record {
-      settings = record { n = 2; b = 100; track = track };
-      sums = record { vv = 17592186044416; flow = record { ii = 14400; vi = pos 503316480; peak = 120 }; clips = noClips; seen = true; raw = pos 60 };
+      settings = record { n = 2; b = 100; track = track; config = 0x86 };
+      sums = record {
+        vv = 17592186044416;
+        a = record { ii = 14400; vi = pos 503316480; peak = 120 };
+        b = record { ii = 1521; vi = negsuc 163577855; peak = 39 };
+        clips = noClips;
+        seen = true;
+        raw = inputs (pos 60);
+      };
       any = true;
       last = interval3;
     };
@@ -305,7 +329,8 @@ pub record DayIsSo : Type 0 where
   -- the rule, from the history alone: each interval has the card that was committed last before its first sample
   pub cuts : cutBy 2 (tagged core ports none (runOf aberzhan methods site day .history)) ≡ dayIntervals
   -- and the energy rule over them
-  pub counts : (plusOver (site .meter .work .settings) dayClosed ≡ energy 1 4) × (minusOver (site .meter .work .settings) dayClosed ≡ energy 41943 64)
+  pub counts-a : (plusOver (site .meter .work .settings) IA dayClosed ≡ energy 1 4) × (minusOver (site .meter .work .settings) IA dayClosed ≡ energy 41943 64)
+  pub counts-b : (plusOver (site .meter .work .settings) IB dayClosed ≡ energy 20972 2) × (minusOver (site .meter .work .settings) IB dayClosed ≡ energy 0 34)
   -- and the alarms: what came, and what it means, before the reset and after the last voltage
   pub came : map cameAs (marked core ports none (runOf aberzhan methods site day .history) (outset core (site .meter .work))) ≡ dayCame
   pub means : (alarmsMeant (site .watch .limits) (take 6 dayCame) ≡ sagToo) × (alarmsMeant (site .watch .limits) dayCame ≡ surgeAlone)

@@ -1,11 +1,12 @@
--- Of every closed interval of every program: VRMS and IRMS are roots of its mean squares; its root and its card's SQUELCH alone decide whether it is
--- squelched, and no energy comes of it then; its counts are of its own clipped samples; its number counts the closes; minima and maxima are those of all
+-- Of every closed interval of every program: VRMS and each source's IRMS are roots of its mean squares; a source's root and the card's SQUELCH alone decide
+-- whether the source is squelched, and no energy comes of it then; its counts are of its own clipped samples; its number counts the closes; minima and maxima are those of all
 -- that closed so far.
 use mathlib.Core.List.{List, [], _∷_}
 use mathlib.Core.Option.{Option, none, some}
-use lib.IntN.{ℤ}
 use Rattle.steps.specs.OneCard.{Interval}
 use Rattle.card.specs.declared.Card.{Card}
+use Rattle.source.specs.Sources.{Current}
+use Rattle.sample.specs.declared.Inputs.{Inputs}
 use Rattle.sample.specs.Sums.{Sample}
 use Rattle.interval.specs.declared.Closed.{Closed}
 use Rattle.interval.specs.Whole.{lastRaw}
@@ -18,12 +19,12 @@ use Rattle.meter.specs.Core.{core}
 use Rattle.demands.specs.Program.{Program, settings, closes}
 use Rattle.demands.specs.Intervals.{intervalsOf, rawBefore}
 
--- what is said of a closed interval: of its card, the raw current before its first sample, its samples, what closed right before it, and itself
+-- what is said of a closed interval: of its card, the raw inputs before its first sample, its samples, what closed right before it, and itself
 abbrev pub Saying : Type 1
-Saying = Card → ℤ → List Sample → Closed → Closed → Type 0
+Saying = Card → Inputs → List Sample → Closed → Closed → Type 0
 
--- it is so of the intervals and what they closed as, one by one; r is the raw current before the first, if one was seen; `old` closed before it
-abbrev pub Each : Saying → Option ℤ → Closed → List (Interval core) → List Closed → Type 0
+-- it is so of the intervals and what they closed as, one by one; r are the raw inputs before the first, if any were seen; `old` closed before it
+abbrev pub Each : Saying → Option Inputs → Closed → List (Interval core) → List Closed → Type 0
 Each P r old [] [] = Unit {0}
 Each P r old [] (z ∷ zs) = ⊥
 Each P r old (i ∷ is) [] = ⊥
@@ -32,8 +33,8 @@ Each P r old (i ∷ is) (z ∷ zs) =
     P (i .card) before (i .samples) old z × Each P (some (lastRaw before (i .samples))) z is zs
 
 pub record ProgramHistory (p : Program) : Type 0 where
-  pub roots : Each (λ c before xs old z. RmsOf c before xs z) none noneClosed (intervalsOf p) (closes p)
-  pub squelching : Each SquelchedBy none noneClosed (intervalsOf p) (closes p)
+  pub roots : Each (λ c before xs old z. RmsOf c (settings p .config) before xs z) none noneClosed (intervalsOf p) (closes p)
+  pub squelching : (w : Current) → Each (λ c before xs old z. SquelchedBy c (settings p .config) before xs old z w) none noneClosed (intervalsOf p) (closes p)
   pub clipping : Each (λ c before xs old z. ClippedBy c xs z) none noneClosed (intervalsOf p) (closes p)
   pub followed : EachFollowed (settings p) (closes p)
 

@@ -1,15 +1,17 @@
--- Each closed interval is what documents 01 and 02 (A1, A2) work out from its card, its own N samples and the raw current before its first.
+-- Each closed interval is what documents 01 and 02 (A1, A2, A5) work out from its card, the board's configuration, its own N samples and the raw
+-- inputs before its first.
 use Prim.Native.Nat.{ℕ, zero, suc, _/_}
 use mathlib.Core.Path.{_≡_}
 use mathlib.Core.Bool.{Bool, true, false}
 use mathlib.Core.List.{List, [], _∷_, map}
 use mathlib.Core.Option.{Option, none, some}
-use lib.IntN.{ℤ, pos}
+use lib.IntN.{pos}
 use lib.ListN.{length, take, drop}
 use Rattle.steps.specs.Shorter.{struck}
 use Rattle.steps.specs.OneCard.{Tagged, Interval, tagged, samplesFed}
 use Rattle.interval.specs.declared.Settings.{Settings}
 use Rattle.interval.specs.declared.Closed.{Closed}
+use Rattle.sample.specs.declared.Inputs.{Inputs}
 use Rattle.sample.specs.Sums.{Sample}
 use Rattle.interval.specs.Whole.{lastRaw, intervalOf}
 use Rattle.interval.specs.Close.{noneClosed}
@@ -48,14 +50,14 @@ EachHas n (i ∷ is) = (length (i .samples) ≡ n) × EachHas n is
 
 -- ---- what they come to
 
--- the raw current before an interval's first sample; for the module's first sample it is that sample itself
-abbrev pub rawBefore : Option ℤ → List Sample → ℤ
+-- the raw inputs before an interval's first sample; for the module's first sample they are those of that sample itself
+abbrev pub rawBefore : Option Inputs → List Sample → Inputs
 rawBefore (some r) xs = r
-rawBefore none [] = pos 0
+rawBefore none [] = record { s1 = pos 0; s3 = pos 0 }
 rawBefore none (x ∷ xs) = x .1
 
--- the intervals, worked one after another: r is the raw current before the first of them, if one was seen; `old` closed before them
-abbrev pub wholes : Settings → Bool → Option ℤ → Closed → List (Interval core) → List Closed
+-- the intervals, worked one after another: r are the raw inputs before the first of them, if any were seen; `old` closed before them
+abbrev pub wholes : Settings → Bool → Option Inputs → Closed → List (Interval core) → List Closed
 wholes t fst r old [] = []
 wholes t fst r old (i ∷ is) =
     let before = rawBefore r (i .samples) in

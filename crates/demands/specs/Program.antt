@@ -32,11 +32,12 @@ pub record Program : Type 0 where
   pub n : ℤ  -- the settings asked for: samples per interval,
   pub b : ℤ  -- the bucket,
   pub track : List WordAddr  -- the words to track,
-  pub asked : Asked  -- and what is asked of the watch
+  pub asked : Asked  -- what is asked of the watch,
+  pub config : ℤ  -- and the board's configuration
   pub started : Stepped  -- what the start returned
   pub turns : List Turn
   pub log : Log aberzhan Module  -- what came of the turns
-  pub start-allowed : Starts n b track asked started
+  pub start-allowed : Starts n b track asked config started
   pub turns-allowed : Took turns (started .after) log
 
 -- the module that the start returned, and its settings
