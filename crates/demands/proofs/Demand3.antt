@@ -83,11 +83,11 @@ reply-by : (b : Bool) → replyOf (cond b Done (Refused 18)) ≡ cond b done (re
 reply-by true = refl
 reply-by false = refl
 
-block-18 : (m : Module) → SoundModule m → (v i : List ℤ) (xs : List Sample) (o : Reply aberzhan × Module) → samplesOf v i ≡ accepted xs → Allows (callBlock v i) m o →
+block-18 : (m : Module) → SoundModule m → (v s1 s3 : List ℤ) (xs : List Sample) (o : Reply aberzhan × Module) → samplesOf v s1 s3 ≡ accepted xs → Allows (callBlock v s1 s3) m o →
     o .0 ≡ cond (m .meter .waits || m .meter .forced) done (refuses 18)
-block-18 m h v i xs o e a =
-    ap (λ (o : Reply aberzhan × Module). o .0) (allowed-is (callBlock v i) m o a)
-    ∙ ap replyOf (eighteen m v i xs h e)
+block-18 m h v s1 s3 xs o e a =
+    ap (λ (o : Reply aberzhan × Module). o .0) (allowed-is (callBlock v s1 s3) m o a)
+    ∙ ap replyOf (eighteen m v s1 s3 xs h e)
     ∙ reply-by (m .meter .waits || m .meter .forced)
 
 pub module-demand3 : ModuleDemand3

@@ -37,7 +37,8 @@ pub record ProgramDemand3 (p : Program) : Type 0 where
   -- none waits, and then with 18
   pub sound : soundOf (p .log .end .meter) ≡ true
   pub watch-sound : watchSound (watchOf (p .log .end)) ≡ true
-  pub eighteen : (v i : List ℤ) (xs : List Sample) (o : Reply aberzhan × Module) → samplesOf v i ≡ accepted xs → Allows (callBlock v i) (p .log .end) o →
+  pub eighteen : (v s1 s3 : List ℤ) (xs : List Sample) (o : Reply aberzhan × Module) → samplesOf v s1 s3 ≡ accepted xs →
+      Allows (callBlock v s1 s3) (p .log .end) o →
       o .0 ≡ cond (p .log .end .meter .waits || p .log .end .meter .forced) done (refuses 18)
 
 abbrev pub ModuleDemand3 : Type 0
