@@ -35,17 +35,15 @@ probeOf c config = record {
 unfoldable pub bothOf : Probe → Inputs → Both
 bothOf p raw = record { s1 = correction (raw .s1) (p .ioffs) (p .igain); s3 = correction (raw .s3) (p .ioffs) (p .igain) }
 
-unfoldable pub mixedBoth : Probe → Both → Both → Inputs
-mixedBoth p now old = record {
-  s1 = mixed (p .phase) (now .s1 .value) (old .s1 .value);
-  s3 = mixed (p .phase) (now .s3 .value) (old .s3 .value);
-}
+unfoldable pub mixedBoth : Probe → Both → ℤ → ℤ → Inputs
+mixedBoth p now old1 old3 = record { s1 = mixed (p .phase) (now .s1 .value) old1; s3 = mixed (p .phase) (now .s3 .value) old3 }
 
 -- one sample more, and samples one after another: `added` and `addedAll` of the card and the configuration that the probe was taken out of
 unfoldable pub probed : Probe → Sums → Sample → Sums
 probed p s x =
     let now = bothOf p (x .1) in
-    let y = mixedBoth p now (bothOf p (previous s (x .1))) in
+    let old = bothOf p (previous s (x .1)) in
+    let y = mixedBoth p now (old .s1 .value) (old .s3 .value) in
     summed s (corrected (x .0) (p .voffs) (p .vgain)) (blended (p .a) (y .s1) (y .s3)) (blended (p .b) (y .s1) (y .s3))
     (wasClipped (x .0) (p .voffs) (p .vgain)) (now .s1 .clipped) (now .s3 .clipped) (x .1)
 
@@ -81,9 +79,9 @@ joinedTo t v ia ib v-clipped s1-clipped s3-clipped = record {
   clips = oneMore (t .clips) v-clipped s1-clipped s3-clipped;
 }
 
-unfoldable pub takenInto : Tally → Probe → ℤ → Both → Both → Tally
-takenInto t p v now old =
-    let y = mixedBoth p now old in
+unfoldable pub takenInto : Tally → Probe → ℤ → Both → ℤ → ℤ → Tally
+takenInto t p v now old1 old3 =
+    let y = mixedBoth p now old1 old3 in
     joinedTo t (corrected v (p .voffs) (p .vgain)) (blended (p .a) (y .s1) (y .s3)) (blended (p .b) (y .s1) (y .s3))
     (wasClipped v (p .voffs) (p .vgain)) (now .s1 .clipped) (now .s3 .clipped)
 

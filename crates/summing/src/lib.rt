@@ -69,13 +69,13 @@ fn correct_both(p: Probe, s1: i32, s3: i32) -> Both
     Both { s1: x, s3: y }
 }
 
-// Both inputs mixed with the previous ones.
-fn mix_both(p: Probe, now: Both, old: Both) -> Inputs
-    requires { ⌜ (p .phase ≤ 4095) × Within now × Within old ⌝ }
-    ensures { λ r. ⌜ r ≡ mixedBoth p now old ⌝ }
+// Both inputs mixed with the previous ones. (Those are two numbers and no struct: the loop then keeps each in a register of its own.)
+fn mix_both(p: Probe, now: Both, old1: i32, old3: i32) -> Inputs
+    requires { ⌜ (p .phase ≤ 4095) × Within now × (mag old1 < 8388608) × (mag old3 < 8388608) ⌝ }
+    ensures { λ r. ⌜ r ≡ mixedBoth p now old1 old3 ⌝ }
 {
-    let s1 = mix(p.phase, now.s1.value, old.s1.value);
-    let s3 = mix(p.phase, now.s3.value, old.s3.value);
+    let s1 = mix(p.phase, now.s1.value, old1);
+    let s3 = mix(p.phase, now.s3.value, old3);
     Inputs {
         s1: s1 as i32,
         s3: s3 as i32,
@@ -178,13 +178,13 @@ fn add(t: Tally, v: Corrected, ia: i32, ib: i32, now: Both) -> Tally
     }
 }
 
-// One sample more: v the raw voltage, now and old the corrected inputs. Old was counted with its own sample.
-fn take(t: Tally, p: Probe, v: i32, now: Both, old: Both) -> Tally
-    requires { ⌜ Small t × (p .phase ≤ 4095) × Within now × Within old ⌝ }
-    ensures { λ r. ⌜ r ≡ takenInto t p v now old ⌝ }
+// One sample more: v the raw voltage, now the corrected inputs, old1 and old3 the previous ones, which were counted with their own sample.
+fn take(t: Tally, p: Probe, v: i32, now: Both, old1: i32, old3: i32) -> Tally
+    requires { ⌜ Small t × (p .phase ≤ 4095) × Within now × (mag old1 < 8388608) × (mag old3 < 8388608) ⌝ }
+    ensures { λ r. ⌜ r ≡ takenInto t p v now old1 old3 ⌝ }
 {
     let cv = correct(v, p.voffs, p.vgain);
-    let y = mix_both(p, now, old);
+    let y = mix_both(p, now, old1, old3);
     let ia = blend(p.a, y.s1, y.s3);
     let ib = blend(p.b, y.s1, y.s3);
     add(t, cv, ia, ib, now)
@@ -208,13 +208,15 @@ fn run_with(s0: Sums, p: Probe, first: Both, v: &[i32], s1: &[i32], s3: &[i32]) 
     requires { ⌜ first ≡ bothOf p (previous s0 (record { s1 = getD (now s1) 0 (pos 0); s3 = getD (now s3) 0 (pos 0) })) ⌝ }
     ensures { λ r. ⌜ r ≡ probedAll p s0 (samplesIn (now (v .entry)) (now (s1 .entry)) (now (s3 .entry))) ⌝ }
 {
-    let mut old = first;
+    let mut old1 = first.s1.value;
+    let mut old3 = first.s3.value;
     let mut t = tally_of(s0);
     let mut k: usize = 0;
     while k < v.len() {
         let now = correct_both(p, s1[k], s3[k]);
-        t = take(t, p, v[k], now, old);
-        old = now;
+        t = take(t, p, v[k], now, old1, old3);
+        old1 = now.s1.value;
+        old3 = now.s3.value;
         k += 1;
     }
     let last = v.len() - 1;

@@ -10,8 +10,9 @@ use mathlib.Core.List.{List}
 use lib.IntN.{ℤ, pos}
 use lib.ListN.{getD, length, drop}
 use mir.Syntax.{w32}
-use mir.Val.{SFits}
+use mir.Val.{SFits, toZ}
 use mir.Facts.{toZ-ofZ}
+use Rattle.range.proofs.Ranges.{in-fits, in-mag}
 use Rattle.source.proofs.Blends.{blended-in}
 use Rattle.sample.specs.declared.Inputs.{Inputs}
 use Rattle.sample.specs.declared.Sums.{Sums}
@@ -23,7 +24,7 @@ use Rattle.sample.proofs.Slices.{sampleAt, previous-after}
 use Rattle.summing.specs.declared.Probe.{Probe}
 use Rattle.summing.specs.declared.Both.{Both}
 use Rattle.summing.specs.declared.Tally.{Tally}
-use Rattle.summing.specs.Inside.{bothOf, probedAll, probed, tallyOf, takenInto}
+use Rattle.summing.specs.Inside.{bothOf, probedAll, probed, tallyOf, takenInto, Within}
 use Rattle.summing.proofs.Tallies.{tally-more, small-of, tally-end}
 use Rattle.summing.proofs.Probes.{probe-more, probe-end, both-within}
 use Rattle.summing.proofs.run_with.Statement.{statement}
@@ -34,26 +35,31 @@ abbrev inputs : List ℤ → List ℤ → ℕ → Inputs
 inputs s1 s3 k = record { s1 = getD s1 k (pos 0); s3 = getD s3 k (pos 0) }
 
 -- the sums that the tally t is of, after k samples
-record Of (p : Probe) (v s1 s3 : List ℤ) (s₀ : Sums) (old : Both) (t : Tally) (k : ℕ) : Type 0 where
+record Of (p : Probe) (v s1 s3 : List ℤ) (s₀ : Sums) (old1 old3 : ℕ) (t : Tally) (k : ℕ) : Type 0 where
   sums : Sums
   spare : Spare sums (length v - k)
   goes-on : probedAll p sums (drop k (samplesIn v s1 s3)) ≡ probedAll p s₀ (samplesIn v s1 s3)
-  before : old ≡ bothOf p (previous sums (inputs s1 s3 k))
+  before1 : toZ w32 old1 ≡ bothOf p (previous sums (inputs s1 s3 k)) .s1 .value
+  before3 : toZ w32 old3 ≡ bothOf p (previous sums (inputs s1 s3 k)) .s3 .value
   tally : t ≡ tallyOf sums
   last : 0 < k → (sums .seen ≡ true) × (sums .raw ≡ inputs s1 s3 (k - 1))
 
 abbrev Inv-loop : tie.InvT-loop
-Inv-loop s₀ p v s1 s3 old₀ t₀ k₀ old t k = (k ≤ length v) × Of p v s1 s3 s₀ old t k
+Inv-loop s₀ p v s1 s3 old1₀ old3₀ t₀ k₀ old1 old3 t k = (k ≤ length v) × Of p v s1 s3 s₀ old1 old3 t k
 
 abbrev μ-loop : tie.MeasureT-loop
-μ-loop s₀ p v s1 s3 old₀ t₀ k₀ old t k = length v - k
+μ-loop s₀ p v s1 s3 old1₀ old3₀ t₀ k₀ old1 old3 t k = length v - k
 
 -- one sample more has room, and its tally is that of the sums with it
 spare-next : (p : Probe) (s : Sums) (x : Sample) (k : ℕ) → Spare s (suc k) → Spare (probed p s x) k
 unfolding probed
 spare-next p s x k h = spare-more s _ _ _ _ _ _ (x .1) (corrected-in _ _ _) (blended-in _ _ _) (blended-in _ _ _) k h
 
-take-next : (p : Probe) (s : Sums) (x : Sample) → takenInto (tallyOf s) p (x .0) (bothOf p (x .1)) (bothOf p (previous s (x .1))) ≡ tallyOf (probed p s x)
+take-same : (p : Probe) {t t′ : Tally} {v v′ a a′ b b′ : ℤ} {now now′ : Both} → t ≡ t′ → v ≡ v′ → now ≡ now′ → a ≡ a′ → b ≡ b′ →
+    takenInto t p v now a b ≡ takenInto t′ p v′ now′ a′ b′
+take-same p e f g h i = rw (e, f, g, h, i)
+
+take-next : (p : Probe) (s : Sums) (x : Sample) → (let old = bothOf p (previous s (x .1)) in takenInto (tallyOf s) p (x .0) (bothOf p (x .1)) (old .s1 .value) (old .s3 .value)) ≡ tallyOf (probed p s x)
 unfolding probed takenInto
 take-next p s x = tally-more s _ _ _ _ _ _ (x .1)
 
@@ -66,34 +72,42 @@ unfolding probed summed
 seen-next p s x = (refl, refl)
 
 tally-of-requires : tie.Need-tally-of-requires Inv-loop μ-loop
-tally-of-requires c κs = spare-room (c .args .s0) _ (c .pre .0 .1) .clips
+tally-of-requires c κs = let start = c .before .before in spare-room (start .args .s0) _ (start .pre .0 .1) .clips
 
 loop-holds : tie.Need-loop-holds Inv-loop μ-loop
 loop-holds c =
-    let start = c .before in
+    let start = c .before .before .before in
+    let first = start .args .first in
+    let w : Within first = rw (start .pre .1 .1) (both-within (start .args .p) _) in
+    let h : SFits w32 (first .s1 .value) = in-fits (in-mag (first .s1 .value) (w .s1)) in
+    let k : SFits w32 (first .s3 .value) = in-fits (in-mag (first .s3 .value) (w .s3)) in
     let n = length (now (start .args .v)) in (
       omega arith,
       record {
         sums = start .args .s0;
         spare = spare-at (start .args .s0) n (n - 0) (omega arith) (start .pre .0 .1);
         goes-on = refl;
-        before = start .pre .1 .1;
+        before1 = rw (toZ-ofZ h) (ap (λ (b : Both). b .s1 .value) (start .pre .1 .1));
+        before3 = rw (toZ-ofZ k) (ap (λ (b : Both). b .s3 .value) (start .pre .1 .1));
         tally = c .tally-of .ensures;
         last = λ h. absurd (not-suc-le-zero h);
       },
     )
 
+abbrev start-of : tie.In-loop Inv-loop μ-loop → tie.Start Inv-loop μ-loop
+start-of c = c .before .before .before .before .before
+
 mul-correct-both : tie.Need-mul-correct-both Inv-loop μ-loop
 mul-correct-both c = search needs
 
 shared-slice-copy-out-correct-both : tie.Need-shared-slice-copy-out-correct-both Inv-loop μ-loop
-shared-slice-copy-out-correct-both c = omega (arith, c .loop-test .taken, c .before .before .before .pre .1)
+shared-slice-copy-out-correct-both c = omega (arith, c .loop-test .taken, start-of c .pre .1)
 
 mul-correct-both-2 : tie.Need-mul-correct-both-2 Inv-loop μ-loop
 mul-correct-both-2 c = search needs
 
 shared-slice-copy-out-correct-both-2 : tie.Need-shared-slice-copy-out-correct-both-2 Inv-loop μ-loop
-shared-slice-copy-out-correct-both-2 c = omega (arith, c .before .loop-test .taken, c .before .before .before .before .pre .1)
+shared-slice-copy-out-correct-both-2 c = omega (arith, c .before .loop-test .taken, start-of (c .before) .pre .1)
 
 correct-both-requires : tie.Need-correct-both-requires Inv-loop μ-loop
 correct-both-requires c κs = search needs
@@ -105,12 +119,12 @@ shared-slice-copy-out-take : tie.Need-shared-slice-copy-out-take Inv-loop μ-loo
 shared-slice-copy-out-take c = omega (arith, c .before .before .before .loop-test .taken)
 
 -- there is a sample, and a block's length is small
-turn : (c : tie.In-loop Inv-loop μ-loop) → (c .before .loop .k < length (now (c .before .before .before .args .v))) × (length (now (c .before .before .before .args .v)) ≤ 4096)
-turn c = (c .loop-test .taken, omega (arith, c .before .before .before .pre .0 .1 .few))
+turn : (c : tie.In-loop Inv-loop μ-loop) → (c .before .loop .k < length (now (start-of c .args .v))) × (length (now (start-of c .args .v)) ≤ 4096)
+turn c = (c .loop-test .taken, omega (arith, start-of c .pre .0 .1 .few))
 
 -- the sample of this turn
 abbrev sample-of : tie.In-loop Inv-loop μ-loop → Sample
-sample-of c = let a = c .before .before .before .args in sampleAt (now (a .v)) (now (a .s1)) (now (a .s3)) (c .before .loop .k)
+sample-of c = let a = start-of c .args in sampleAt (now (a .v)) (now (a .s1)) (now (a .s3)) (c .before .loop .k)
 
 s1-fits : (c : tie.After-correct-both-arg Inv-loop μ-loop) → SFits w32 (sample-of (c .before) .1 .s1)
 s1-fits c = search needs
@@ -123,46 +137,52 @@ v-fits c = search needs
 
 now-is : (c : tie.After-correct-both Inv-loop μ-loop) →
     let here = c .before .before .before in
-    c .correct-both .result ≡ bothOf (here .before .before .before .args .p) (sample-of here .1)
+    c .correct-both .result ≡ bothOf (start-of here .args .p) (sample-of here .1)
 now-is c = c .correct-both .ensures ∙ rw (toZ-ofZ (s1-fits (c .before .before)), toZ-ofZ (s3-fits (c .before)))
+
+-- the corrected inputs in the range
+now-within : (c : tie.After-correct-both Inv-loop μ-loop) → Within (c .correct-both .result)
+now-within c = let here = c .before .before .before in rw (now-is c) (both-within (start-of here .args .p) (sample-of here .1))
 
 take-requires : tie.Need-take-requires Inv-loop μ-loop
 take-requires c κs =
     let here = c .before .before .before .before in
     let top = here .before in
-    let p = top .before .before .args .p in
-    let o = top .loop .inv .1 in (
+    let p = start-of here .args .p in
+    let o = top .loop .inv .1 in
+    let old = both-within p (previous (o .sums) (sample-of here .1)) in (
       rw (o .tally) (small-of (o .sums) (spare-room (o .sums) _ (o .spare))),
-      top .before .before .pre .0 .0,
-      rw (now-is (c .before)) (both-within p (sample-of here .1)),
-      rw (o .before) (both-within p (previous (o .sums) (sample-of here .1))),
+      start-of here .pre .0 .0,
+      now-within (c .before),
+      rw (o .before1) (old .s1),
+      rw (o .before3) (old .s3),
     )
 
 add-k : tie.Need-add-k Inv-loop μ-loop
-add-k c = record { fits = omega (arith, turn (c .before .before .before .before .before)) }
+add-k c = record { fits = omega (arith, turn (c .before .before .before .before .before .before .before)) }
 
 loop-less : tie.Need-loop-less Inv-loop μ-loop
-loop-less c = omega (arith, turn (c .before .before .before .before .before))
+loop-less c = omega (arith, turn (c .before .before .before .before .before .before .before))
 
 -- what was taken is a tally of the sums with one sample more
 take-is : (c : tie.After-take Inv-loop μ-loop) →
     let here = c .before .before .before .before .before in
-    let top = here .before in
-    c .take .result ≡ tallyOf (probed (top .before .before .args .p) (top .loop .inv .1 .sums) (sample-of here))
+    c .take .result ≡ tallyOf (probed (start-of here .args .p) (here .before .loop .inv .1 .sums) (sample-of here))
 take-is c =
     let now′ = c .before .before in
     let here = now′ .before .before .before in
-    let top = here .before in
-    let o = top .loop .inv .1 in
+    let o = here .before .loop .inv .1 in
     c .take .ensures
-    ∙ rw (now-is now′, o .before, o .tally, toZ-ofZ (v-fits (c .before))) (take-next (top .before .before .args .p) (o .sums) (sample-of here))
+    ∙ take-same (start-of here .args .p) (o .tally) (toZ-ofZ (v-fits (c .before))) (now-is now′) (o .before1) (o .before3)
+    ∙ take-next (start-of here .args .p) (o .sums) (sample-of here)
 
 loop-again : tie.Need-loop-again Inv-loop μ-loop
 loop-again c =
-    let now′ = c .before .before in
+    let taken = c .before .before in
+    let now′ = taken .before .before in
     let inside = now′ .before .before .before in
     let top = inside .before in
-    let start = top .before .before in
+    let start = start-of inside in
     let p = start .args .p in
     let v = now (start .args .v) in
     let s1 = now (start .args .s1) in
@@ -173,40 +193,43 @@ loop-again c =
     let x = sample-of inside in
     let here = turn inside in
     let less : suc (length v - (k + 1)) ≡ length v - k = omega (arith, here) in
-    let back : k + 1 - 1 ≡ k = omega arith in (
+    let back : k + 1 - 1 ≡ k = omega arith in
+    let was = now-is now′ ∙ ap (bothOf p) (sym (previous-next p s x (inputs s1 s3 (k + 1)))) in
+    let w = now-within now′ in (
       omega (arith, here),
       record {
         sums = probed p s x;
         spare = spare-next p s x (length v - (k + 1)) (spare-at s (length v - k) (suc (length v - (k + 1))) (sym less) (o .spare));
         goes-on = sym (probe-more p s v s1 s3 k (start .pre .1 .0 .0) (start .pre .1 .0 .1) (here .0)) ∙ o .goes-on;
-        before = now-is now′ ∙ ap (bothOf p) (sym (previous-next p s x (inputs s1 s3 (k + 1))));
-        tally = take-is c;
+        before1 = rw (toZ-ofZ (in-fits (in-mag (now′ .correct-both .result .s1 .value) (w .s1)))) (ap (λ (b : Both). b .s1 .value) was);
+        before3 = rw (toZ-ofZ (in-fits (in-mag (now′ .correct-both .result .s3 .value) (w .s3)))) (ap (λ (b : Both). b .s3 .value) was);
+        tally = take-is taken;
         last = λ h. (seen-next p s x .0, seen-next p s x .1 ∙ ap (inputs s1 s3) (sym back));
       },
     )
 
 sub-last : tie.Need-sub-last Inv-loop μ-loop
-sub-last c = omega (arith, c .before .before .before .pre .0 .2)
+sub-last c = omega (arith, c .before .before .before .before .before .pre .0 .2)
 
-mul-t21 : tie.Need-mul-t21 Inv-loop μ-loop
-mul-t21 c = search needs
+mul-t22 : tie.Need-mul-t22 Inv-loop μ-loop
+mul-t22 c = search needs
 
-shared-slice-copy-out-t23 : tie.Need-shared-slice-copy-out-t23 Inv-loop μ-loop
-shared-slice-copy-out-t23 c = omega (arith, c .before .before .before .pre .0 .2, c .before .before .before .pre .1)
+shared-slice-copy-out-t24 : tie.Need-shared-slice-copy-out-t24 Inv-loop μ-loop
+shared-slice-copy-out-t24 c = let start = c .before .before .before .before .before in omega (arith, start .pre .0 .2, start .pre .1)
 
-mul-t24 : tie.Need-mul-t24 Inv-loop μ-loop
-mul-t24 c = search needs
+mul-t25 : tie.Need-mul-t25 Inv-loop μ-loop
+mul-t25 c = search needs
 
-shared-slice-copy-out-t26 : tie.Need-shared-slice-copy-out-t26 Inv-loop μ-loop
-shared-slice-copy-out-t26 c = omega (arith, c .before .before .before .before .pre .0 .2, c .before .before .before .before .pre .1)
+shared-slice-copy-out-t27 : tie.Need-shared-slice-copy-out-t27 Inv-loop μ-loop
+shared-slice-copy-out-t27 c = let start = c .before .before .before .before .before .before in omega (arith, start .pre .0 .2, start .pre .1)
 
 sums-after-requires : tie.Need-sums-after-requires Inv-loop μ-loop
 sums-after-requires c κs = search needs
 
-last1-fits : (c : tie.After-t23 Inv-loop μ-loop) → let a = c .before .before .before .before .args in SFits w32 (getD (now (a .s1)) (length (now (a .v)) - 1) (pos 0))
+last1-fits : (c : tie.After-t24 Inv-loop μ-loop) → let a = c .before .before .before .before .before .before .args in SFits w32 (getD (now (a .s1)) (length (now (a .v)) - 1) (pos 0))
 last1-fits c = search needs
 
-last3-fits : (c : tie.After-t26 Inv-loop μ-loop) → let a = c .before .before .before .before .before .args in SFits w32 (getD (now (a .s3)) (length (now (a .v)) - 1) (pos 0))
+last3-fits : (c : tie.After-t27 Inv-loop μ-loop) → let a = c .before .before .before .before .before .before .before .args in SFits w32 (getD (now (a .s3)) (length (now (a .v)) - 1) (pos 0))
 last3-fits c = search needs
 
 returns : tie.Need-returns Inv-loop μ-loop
@@ -214,7 +237,7 @@ returns c =
     let arg = c .before in
     let done = arg .before .before in
     let top = done .before in
-    let start = top .before .before in
+    let start = top .before .before .before .before in
     let v = now (start .args .v) in
     let s1 = now (start .args .s1) in
     let s3 = now (start .args .s3) in
@@ -248,9 +271,9 @@ run-with-spec =
     loop-less
     loop-again
     sub-last
-    mul-t21
-    shared-slice-copy-out-t23
-    mul-t24
-    shared-slice-copy-out-t26
+    mul-t22
+    shared-slice-copy-out-t24
+    mul-t25
+    shared-slice-copy-out-t27
     sums-after-requires
     returns)

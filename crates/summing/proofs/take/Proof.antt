@@ -38,22 +38,22 @@ voltage-is c =
 a-is : (c : tie.After-blend) →
     let mixed = c .before .before .before in
     let a = mixed .before .before .before .before .args in
-    c .blend .result ≡ (let y = mixedBoth (a .p) (a .now) (a .old) in blended (a .p .a) (y .s1) (y .s3))
+    c .blend .result ≡ (let y = mixedBoth (a .p) (a .now) (a .old1) (a .old3) in blended (a .p .a) (y .s1) (y .s3))
 a-is c =
     let mixed = c .before .before .before in
     let h : SFits w32 (mixed .mix-both .result .s1) = search needs in
     let k : SFits w32 (mixed .mix-both .result .s3) = search needs in
-    c .blend .ensures ∙ rw (toZ-ofZ h, toZ-ofZ k, mixed .mix-both .ensures)
+    c .blend .ensures ∙ rw (toZ-ofZ h, toZ-ofZ k, mixed .mix-both .ensures, toZ-ofZ (mixed .before .before .before .before .fits .old1), toZ-ofZ (mixed .before .before .before .before .fits .old3))
 
 b-is : (c : tie.After-blend2) →
     let mixed = c .before .before .before .before .before .before in
     let a = mixed .before .before .before .before .args in
-    c .blend2 .result ≡ (let y = mixedBoth (a .p) (a .now) (a .old) in blended (a .p .b) (y .s1) (y .s3))
+    c .blend2 .result ≡ (let y = mixedBoth (a .p) (a .now) (a .old1) (a .old3) in blended (a .p .b) (y .s1) (y .s3))
 b-is c =
     let mixed = c .before .before .before .before .before .before in
     let h : SFits w32 (mixed .mix-both .result .s1) = search needs in
     let k : SFits w32 (mixed .mix-both .result .s3) = search needs in
-    c .blend2 .ensures ∙ rw (toZ-ofZ h, toZ-ofZ k, mixed .mix-both .ensures)
+    c .blend2 .ensures ∙ rw (toZ-ofZ h, toZ-ofZ k, mixed .mix-both .ensures, toZ-ofZ (mixed .before .before .before .before .fits .old1), toZ-ofZ (mixed .before .before .before .before .fits .old3))
 
 a-fits : (c : tie.After-blend) → SFits w32 (c .blend .result)
 a-fits c = sfits-of (c .blend .ok)
