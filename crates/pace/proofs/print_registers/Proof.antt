@@ -8,7 +8,7 @@ abbrev Inv-loop : tie.InvT-loop
 Inv-loop held k₀ t3 k = k ≤ 9
 
 abbrev μ-loop : tie.MeasureT-loop
-μ-loop held k₀ t3 k = 9 - k
+μ-loop held k₀ t3 k = 17 - k
 
 loop-holds : tie.Need-loop-holds Inv-loop μ-loop
 loop-holds c = search needs
