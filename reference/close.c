@@ -12,19 +12,19 @@ static int64_t voltage_rms(const struct module *module)
     return at_most(root_down(module->interval.voltage_squares / module->samples), HIGHEST);
 }
 
-/* What SQUELCH is held against: the root with IRMSOFFS taken off. */
-static int64_t current_root(const struct module *module)
+/* What SQUELCH is held against: a source's root with IRMSOFFS taken off. */
+static int64_t current_root(const struct module *module, const struct sums *sums)
 {
     const int64_t *field = module->card.field;
-    int64_t square = module->interval.current_squares / module->samples - field[IRMSOFFS] * field[IRMSOFFS];
+    int64_t square = sums->squares / module->samples - field[IRMSOFFS] * field[IRMSOFFS];
 
     return at_most(root_down(square < 0 ? 0 : square), HIGHEST);
 }
 
 /* C divides toward zero. N times 2^23 is at most 2^35. */
-static int64_t active_power(const struct module *module)
+static int64_t active_power(const struct module *module, const struct sums *sums)
 {
-    int64_t power = clipped(module->interval.products / (module->samples * 8388608));
+    int64_t power = clipped(sums->products / (module->samples * 8388608));
     int64_t size = size_of(power) - module->card.field[POFFS];
 
     if (size <= 0)
@@ -57,31 +57,40 @@ static void energy_advance(struct energy *energy, int64_t joining, int64_t bucke
     energy->remainder = total % bucket;
 }
 
-static void count_energy(struct module *module, int64_t power)
+static void count_energy(const struct module *module, struct energies *energies, int64_t power)
 {
-    struct energy *energy = power < 0 ? &module->negative : &module->positive;
+    struct energy *energy = power < 0 ? &energies->negative : &energies->positive;
 
     if (power != 0)
         energy_advance(energy, size_of(power) * module->samples, module->bucket);
 }
 
-/* A squelched interval has no current and no power, and so no energy (document 02, A1). The root decides and not
-   IA_RMS: a root of 0 is not below a SQUELCH of 0, and then P stays. */
-static void work_registers(struct module *module, int64_t plain[PLAIN])
+/* A source that is squelched has no current and no power, and so no energy (document 02, A1). The root decides and not
+   its RMS: a root of 0 is not below a SQUELCH of 0, and then P stays. */
+static void work_source(const struct module *module, const struct sums *sums, int64_t volts, struct energies *energies,
+                        int64_t shown[RESULTS])
 {
-    int64_t root = current_root(module);
+    int64_t root = current_root(module, sums);
     bool squelched = root < module->card.field[SQUELCH];
 
+    shown[RMS] = squelched ? 0 : root;
+    shown[PEAK] = at_most(sums->peak, HIGHEST);
+    shown[WATT] = squelched ? 0 : active_power(module, sums);
+    shown[VA] = volts * shown[RMS] / 8388608;
+    shown[PF] = power_factor(shown[WATT], shown[VA]);
+    shown[CREST] = crest(shown[PEAK], shown[RMS]);
+    count_energy(module, energies, shown[WATT]);
+    shown[POS_CNT] = energies->positive.count;
+    shown[NEG_CNT] = energies->negative.count;
+}
+
+/* The voltage is the board's one; each source is worked by itself (document 02, A5). */
+static void work_registers(struct module *module, int64_t plain[PLAIN])
+{
     plain[VA_RMS] = voltage_rms(module);
-    plain[IA_RMS] = squelched ? 0 : root;
-    plain[IA_PEAK] = at_most(module->interval.peak, HIGHEST);
-    plain[WATT_A] = squelched ? 0 : active_power(module);
-    plain[VA_A] = plain[VA_RMS] * plain[IA_RMS] / 8388608;
-    plain[PFA] = power_factor(plain[WATT_A], plain[VA_A]);
-    plain[IA_CREST] = crest(plain[IA_PEAK], plain[IA_RMS]);
-    count_energy(module, plain[WATT_A]);
-    plain[PA_POS_CNT] = module->positive.count;
-    plain[PA_NEG_CNT] = module->negative.count;
+    for (int which = 0; which < SOURCES; which++)
+        work_source(module, &module->interval.source[which], plain[VA_RMS], &module->energies[which],
+                    plain + OF_IA + which * RESULTS);
 }
 
 /* Minima and maxima start at the first closed interval's value and then follow. */

@@ -39,26 +39,30 @@ struct said {
     struct reply reply;
 };
 
-/* Settings that the line leaves out are at their lowest. */
-static struct alarm_settings alarm_settings_of(const struct step *step)
-{
-    int64_t setting[4] = {1, 0, 0, 0};
-
-    for (size_t k = 2 + SLOTS; k < step->numbers; k++)
-        setting[k - 2 - SLOTS] = step->number[k];
-    return (struct alarm_settings){setting[0], setting[1], setting[2], setting[3]};
-}
-
-/* A refused start keeps the module. */
+/* Settings that the line leaves out are at their lowest. A refused start keeps the module. */
 static int start(struct module *module, const struct step *step)
 {
     static struct module fresh;
-    const struct alarm_settings settings = alarm_settings_of(step);
-    int refusal = module_start(&fresh, step->number[0], step->number[1], step->number + 2, &settings);
+    int64_t setting[NUMBERS_MOST - 2 - SLOTS] = {1, 0, 0, 0, 0};
+    struct alarm_settings settings;
+    int refusal;
 
+    for (size_t k = 2 + SLOTS; k < step->numbers; k++)
+        setting[k - 2 - SLOTS] = step->number[k];
+    settings = (struct alarm_settings){setting[0], setting[1], setting[2], setting[3]};
+    refusal = module_start(&fresh, step->number[0], step->number[1], step->number + 2, &settings, setting[4]);
     if (refusal == 0)
         *module = fresh;
     return refusal;
+}
+
+static int block(struct module *module, const struct step *step)
+{
+    struct slice slice[SLICES];
+
+    for (int which = 0; which < SLICES; which++)
+        slice[which] = (struct slice){step->sample[which], step->samples[which]};
+    return module_block(module, slice);
 }
 
 static int take_step(struct module *module, const struct step *step, struct said *said)
@@ -83,7 +87,7 @@ static int take_step(struct module *module, const struct step *step, struct said
     case POLL:
         return module_poll(module, step->packet, step->packet_length, number[0], &said->reply);
     case BLOCK:
-        return module_block(module, step->voltage, step->voltages, step->current, step->currents);
+        return block(module, step);
     case RESET:
         return module_reset(module, number[0]);
     case CARDS:
@@ -111,7 +115,8 @@ static void put_held(const struct held *held)
 {
     printf(" %" PRIu32, held->number);
     put_serial(&held->serial);
-    printf(" %" PRId64 " %" PRId64, held->clipped.voltages, held->clipped.currents);
+    for (int which = 0; which < SLICES; which++)
+        printf(" %" PRId64, held->clipped.of[which]);
     fputs(held->alarms & SAG ? " SAG" : " -", stdout);
     fputs(held->alarms & SURGE ? " SURGE" : " -", stdout);
 }
@@ -158,7 +163,7 @@ int main(void)
     static struct line line;
     static struct step step;
 
-    module_start(&module, 0, 0, nothing, &(struct alarm_settings){0}); /* refused: the module of a refused start */
+    module_start(&module, 0, 0, nothing, &(struct alarm_settings){0}, 0); /* refused: the module of a refused start */
     while (next_line(&line)) {
         enum unread unread = TOO_LONG;
 

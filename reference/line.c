@@ -154,30 +154,32 @@ static bool take_bar(struct rest *rest)
     return true;
 }
 
-static enum unread take_sample(struct rest *rest, int32_t *side, size_t *count)
+static enum unread take_sample(struct rest *rest, int32_t *slice, size_t *count)
 {
     int64_t number;
 
     if (!take_byte(rest, ' '))
         return NO_SAMPLE; /* right behind the bar */
-    if (*count == SIDE_MOST)
+    if (*count == SLICE_MOST)
         return MORE_SAMPLES;
     if (!is_number(take_item(rest), &number) || number < INT32_MIN || number > INT32_MAX)
         return NO_SAMPLE;
-    side[(*count)++] = (int32_t)number;
+    slice[(*count)++] = (int32_t)number;
     return NONE;
 }
 
+/* Each slice but the last ends with a bar, the last with the line. */
 static enum unread take_block(struct step *step, struct rest *rest)
 {
     enum unread unread = NONE;
 
-    step->voltages = 0;
-    step->currents = 0;
-    while (unread == NONE && !take_bar(rest))
-        unread = at_end(rest) ? NO_BAR : take_sample(rest, step->voltage, &step->voltages);
-    while (unread == NONE && !at_end(rest))
-        unread = take_sample(rest, step->current, &step->currents);
+    for (int which = 0; which < SLICES; which++) {
+        bool last = which == SLICES - 1;
+
+        step->samples[which] = 0;
+        while (unread == NONE && !(last ? at_end(rest) : take_bar(rest)))
+            unread = at_end(rest) ? FEW_BARS : take_sample(rest, step->sample[which], &step->samples[which]);
+    }
     return unread;
 }
 
@@ -213,7 +215,7 @@ static enum unread take_poll(struct step *step, struct rest *rest)
 enum unread line_parse(struct step *step, const unsigned char *line, size_t length)
 {
     static const struct form form[] = {
-        {"start", START, "nnwwwwwwoooo"},
+        {"start", START, "nnwwwwwwooooo"},
         {"open", OPEN, "nt"},
         {"write", WRITE, "nfn"},
         {"commit", COMMIT, "n"},

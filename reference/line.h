@@ -6,9 +6,10 @@
 #include <stddef.h>
 #include <stdint.h>
 
+#include "sources.h"
 #include "words.h"
 
-enum { LINE_MOST = 131071, SIDE_MOST = 8192, NUMBERS_MOST = 12, PACKET_MOST = 4096, ROOM_MOST = 255 };
+enum { LINE_MOST = 131071, SLICE_MOST = 8192, NUMBERS_MOST = 13, PACKET_MOST = 4096, ROOM_MOST = 255 };
 
 enum kind { START, OPEN, WRITE, COMMIT, DROP, HOLD, READ, POLL, BLOCK, RESET, CARDS, HELP };
 
@@ -18,8 +19,8 @@ struct step {
     size_t numbers;
     const unsigned char *text; /* of an open: within the line */
     size_t text_length;
-    int32_t voltage[SIDE_MOST], current[SIDE_MOST];
-    size_t voltages, currents;
+    int32_t sample[SLICES][SLICE_MOST];
+    size_t samples[SLICES];
     unsigned char packet[PACKET_MOST];
     size_t packet_length;
 };

@@ -4,9 +4,9 @@
 #include "random.h"
 #include "script.h"
 
-enum { STEPS = 400, ALL_WRITTEN = 255 };
+enum { STEPS = 400, ALL_WRITTEN = 255, CONFIGURATION = 12 };
 
-/* The eight settings, one of them out of range or none (-1). */
+/* The first eight settings and the configuration, one of them out of range or none (-1). */
 static void put_settings(int64_t n, int bad)
 {
     put_number(bad == 0 ? PICK(0, -1, 4097, 4097, bad_number(n)) : n);
@@ -14,6 +14,7 @@ static void put_settings(int64_t n, int bad)
                         : good_bucket());
     for (int k = 2; k < 8; k++)
         put_word(bad == k ? bad_word() : good_word());
+    put_configuration(bad == CONFIGURATION ? bad_configuration() : good_configuration());
 }
 
 static void put_cards(void)
@@ -31,8 +32,10 @@ static void put_help(void)
 /* A refused start keeps the module, so the belief stays. */
 static void put_refused_start(void)
 {
+    int bad = (int)PICK(0, 0, 1, 1, 2, 3, 4, 5, 6, 7, CONFIGURATION, CONFIGURATION);
+
     fputs("start", stdout);
-    put_settings(good_samples(), (int)PICK(0, 0, 1, 1, 2, 3, 4, 5, 6, 7));
+    put_settings(good_samples(), bad);
     put_end();
     if (chance(60))
         put_cards();
@@ -256,7 +259,7 @@ int main(int argc, char **argv)
     if (chance(50))
         put_long_line();
     if (chance(80))
-        put_full_side();
+        put_full_slice();
     whole_reading(&belief, (int)draw(2));
     if (chance(70))
         put_no_load(&belief);
@@ -266,6 +269,8 @@ int main(int argc, char **argv)
         put_alarms();
     if (chance(80))
         put_polls();
+    if (chance(85))
+        put_sources();
     put_last_line();
     return fflush(stdout) == 0 ? 0 : 1;
 }

@@ -4,6 +4,12 @@
 
 #include <string.h>
 
+static void configure(struct module *module, int64_t configuration)
+{
+    for (int which = 0; which < SOURCES; which++)
+        module->source[which] = source_from(configuration, which);
+}
+
 static void become_fresh(struct module *module)
 {
     static const struct alarm_settings lowest = {.half_cycle = 1};
@@ -14,10 +20,11 @@ static void become_fresh(struct module *module)
     for (size_t k = 0; k < SLOTS; k++)
         module->slot[k] = OFF;
     alarms_start(&module->alarms, &lowest);
+    configure(module, 0);
 }
 
 int module_start(struct module *module, int64_t samples, int64_t bucket, const int64_t words[SLOTS],
-                 const struct alarm_settings *settings)
+                 const struct alarm_settings *settings, int64_t configuration)
 {
     become_fresh(module);
     if (samples < 1 || samples > 4096 || bucket < 1 || bucket > (INT64_C(1) << 48) - 1)
@@ -25,13 +32,14 @@ int module_start(struct module *module, int64_t samples, int64_t bucket, const i
     for (size_t k = 0; k < SLOTS; k++)
         if (slot_from_word(words[k]) == NO_SUCH)
             return 7;
-    if (!alarm_settings_allowed(settings))
+    if (!alarm_settings_allowed(settings) || !configuration_allowed(configuration))
         return 7;
     module->samples = samples;
     module->bucket = bucket;
     for (size_t k = 0; k < SLOTS; k++)
         module->slot[k] = slot_from_word(words[k]);
     alarms_start(&module->alarms, settings);
+    configure(module, configuration);
     return 0;
 }
 

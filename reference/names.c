@@ -1,4 +1,4 @@
-/* names.c: finds fields and registers by their names in document 01. */
+/* names.c: finds fields and registers by their names in documents 01 and 02. */
 #include "names.h"
 
 #include <string.h>
@@ -13,10 +13,12 @@ static const struct name field[] = {
 };
 
 static const struct name word[] = {
-    {"VA_RMS", 0x2B},   {"IA_RMS", 0x3E},     {"IA_PEAK", 0x46},    {"WATT_A", 0x4B}, {"VA_A", 0x4E}, {"PFA", 0x65},
-    {"IA_CREST", 0x8B}, {"PA_POS_CNT", 0x8F}, {"PA_NEG_CNT", 0x92}, {"MIN1", 0x71},   {"MIN2", 0x72}, {"MIN3", 0x73},
-    {"MIN4", 0x74},     {"MIN5", 0x75},       {"MIN6", 0x76},       {"MAX1", 0x77},   {"MAX2", 0x78}, {"MAX3", 0x79},
-    {"MAX4", 0x7A},     {"MAX5", 0x7B},       {"MAX6", 0x7C},
+    {"VA_RMS", 0x2B},     {"IA_RMS", 0x3E},     {"IA_PEAK", 0x46},    {"WATT_A", 0x4B},     {"VA_A", 0x4E},
+    {"PFA", 0x65},        {"IA_CREST", 0x8B},   {"PA_POS_CNT", 0x8F}, {"PA_NEG_CNT", 0x92}, {"IB_RMS", 0x3F},
+    {"IB_PEAK", 0x47},    {"WATT_B", 0x4C},     {"VA_B", 0x4F},       {"PFB", 0x66},        {"IB_CREST", 0x8C},
+    {"PB_POS_CNT", 0x95}, {"PB_NEG_CNT", 0x98}, {"MIN1", 0x71},       {"MIN2", 0x72},       {"MIN3", 0x73},
+    {"MIN4", 0x74},       {"MIN5", 0x75},       {"MIN6", 0x76},       {"MAX1", 0x77},       {"MAX2", 0x78},
+    {"MAX3", 0x79},       {"MAX4", 0x7A},       {"MAX5", 0x7B},       {"MAX6", 0x7C},
 };
 
 static int64_t number_of(const struct name *names, size_t count, const unsigned char *name, size_t length)

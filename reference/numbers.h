@@ -44,6 +44,11 @@ static inline int64_t at_most(int64_t value, int64_t top)
     return value > top ? top : value;
 }
 
+static inline int64_t at_least(int64_t value, int64_t bottom)
+{
+    return value < bottom ? bottom : value;
+}
+
 /* The root of a square of 0 to 2^46, rounded down. */
 int64_t root_down(int64_t square);
 

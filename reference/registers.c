@@ -4,8 +4,11 @@
 enum { MIN1_WORD = 0x71, MAX1_WORD = 0x77 };
 
 static const int64_t plain_word[PLAIN] = {
-    [VA_RMS] = 0x2B, [IA_RMS] = 0x3E,   [IA_PEAK] = 0x46,    [WATT_A] = 0x4B,     [VA_A] = 0x4E,
-    [PFA] = 0x65,    [IA_CREST] = 0x8B, [PA_POS_CNT] = 0x8F, [PA_NEG_CNT] = 0x92,
+    [VA_RMS] = 0x2B,          [OF_IA + RMS] = 0x3E, [OF_IA + PEAK] = 0x46,  [OF_IA + WATT] = 0x4B,
+    [OF_IA + VA] = 0x4E,      [OF_IA + PF] = 0x65,  [OF_IA + CREST] = 0x8B, [OF_IA + POS_CNT] = 0x8F,
+    [OF_IA + NEG_CNT] = 0x92, [OF_IB + RMS] = 0x3F, [OF_IB + PEAK] = 0x47,  [OF_IB + WATT] = 0x4C,
+    [OF_IB + VA] = 0x4F,      [OF_IB + PF] = 0x66,  [OF_IB + CREST] = 0x8C, [OF_IB + POS_CNT] = 0x95,
+    [OF_IB + NEG_CNT] = 0x98,
 };
 
 static int plain_from_word(int64_t word)

@@ -4,9 +4,12 @@
 
 #include <stdint.h>
 
-/* The table's first nine, in its order. The first seven may be tracked. */
-enum { VA_RMS, IA_RMS, IA_PEAK, WATT_A, VA_A, PFA, IA_CREST, PA_POS_CNT, PA_NEG_CNT, PLAIN };
-enum { TRACKABLE = IA_CREST + 1, SLOTS = 6 };
+/* What a source shows, in the table's order. */
+enum { RMS, PEAK, WATT, VA, PF, CREST, POS_CNT, NEG_CNT, RESULTS };
+
+/* All but MIN and MAX: VA_RMS, the eight of IA, the eight of IB. The first seven may be tracked. */
+enum { VA_RMS, OF_IA, OF_IB = OF_IA + RESULTS, PLAIN = OF_IB + RESULTS };
+enum { TRACKABLE = OF_IA + CREST + 1, SLOTS = 6 };
 
 struct registers {
     int64_t plain[PLAIN];

@@ -1,11 +1,12 @@
-/* script-alarm-lines.c: starts with the settings of sag and surge, resets, and lines that are nearly one of these. */
+/* script-alarm-lines.c: starts with the settings of sag and surge and a configuration, resets, and lines that are
+   nearly one of these. */
 #include <stdio.h>
 
 #include "numbers.h"
 #include "random.h"
 #include "script.h"
 
-enum { SAG = 1 << 21, SURGE = 1 << 9, FIRST_EIGHT = 8, ITEMS = 12 };
+enum { SAG = 1 << 21, SURGE = 1 << 9, FIRST_EIGHT = 8, STICKY = 11, ITEMS = 13 };
 
 int64_t good_mask(void)
 {
@@ -81,7 +82,8 @@ static void take_settings(int64_t setting[ITEMS], int64_t n, const struct watch 
     setting[8] = watch->half_cycle;
     setting[9] = watch->sag;
     setting[10] = watch->surge;
-    setting[11] = watch->sticky;
+    setting[STICKY] = watch->sticky;
+    setting[ITEMS - 1] = chance(40) ? 0 : good_configuration();
 }
 
 void put_watch_start(int64_t n, const struct watch *watch)
@@ -96,17 +98,17 @@ void put_watch_start(int64_t n, const struct watch *watch)
 void put_refused_watch_start(int64_t n, const struct watch *watch)
 {
     int64_t setting[ITEMS];
-    int which = (int)(chance(10) ? between(0, 7) : between(8, 11));
+    int which = (int)(chance(10) ? between(0, 7) : between(8, 12));
 
     take_settings(setting, n, watch);
     if (which < FIRST_EIGHT)
         setting[which] = bad_early(which);
     else if (which == FIRST_EIGHT)
         setting[which] = bad_half_cycle(watch->half_cycle);
-    else if (which < ITEMS - 1)
+    else if (which < STICKY)
         setting[which] = bad_level(setting[which]);
     else
-        setting[which] = bad_mask();
+        setting[which] = which == STICKY ? bad_mask() : bad_configuration();
     put_items(setting, (int)between(which < FIRST_EIGHT ? FIRST_EIGHT : which + 1, ITEMS));
 }
 
@@ -160,15 +162,17 @@ static const char *const line[] = {
     "start 2 2 0 0 0 0 0 0 2 3 ",
     "start 2 2 0 0 0 0 0 0 2 3 4 ",
     "start 2 2 0 0 0 0 0 0 2 3 4 512 ",
-    "start 2 2 0 0 0 0 0 0 2 3 4 512 0",
+    "start 2 2 0 0 0 0 0 0 2 3 4 512 150 ",
+    "start 2 2 0 0 0 0 0 0 2 3 4 512 150 0",
     "start 2 2 0 0 0 0 0 0 2 3 4 512 x",
-    "start 2 2 0 0 0 0 0 0 0 -1 -1 1 0",
-    "start 2 2 0 0 0 0 0 0 2 3 4 512 0 0",
+    "start 2 2 0 0 0 0 0 0 2 3 4 512 150 x",
+    "start 2 2 0 0 0 0 0 0 0 -1 -1 1 256 0",
+    "start 2 2 0 0 0 0 0 0 2 3 4 512 0 0 0",
     "start 2 2 0 0 0 0 0 0 x",
     "start 2 2 0 0 0 0 0 0 2 x",
     "start 2 2 0 0 0 0 0 0 2 3 x",
     "start 2 2 0 0 0 0 0 0 2 3 4 x",
-    "start 2 2 0 0 0 0 0 0 2 3 x 512 0",
+    "start 2 2 0 0 0 0 0 0 2 3 x 512 150 0",
     "start 2 2 0 0 0 0 0 0 513 x",
     "start 0 2 0 0 0 0 0 0 2 3 4 SURGE",
     "start 2 2 0 0 0 0 0 0 VA_RMS",

@@ -159,32 +159,19 @@ static int64_t next_voltage(struct run *run)
     return raw;
 }
 
-/* A long side is written in plain decimal alone. */
-static void put_side(const int64_t *side, int64_t count)
-{
-    for (int64_t k = 0; k < count; k++)
-        if (count < 100)
-            put_number(side[k]);
-        else
-            printf(" %" PRId64, side[k]);
-}
-
 /* The currents are nothing, something, or the voltages themselves: they have no part in the alarms. */
 static void put_samples(struct run *run, int64_t count)
 {
-    static int64_t voltage[LONGEST], current[LONGEST];
+    static int64_t sample[SLICES][LONGEST];
     int64_t most = PICK(0, 0, 9, HIGHEST);
-    bool same = chance(15);
+    int same = (int)PICK(V, V, V, V, S1, S3); /* this one has the voltages themselves */
 
     for (int64_t k = 0; k < count; k++) {
-        voltage[k] = next_voltage(run);
-        current[k] = same ? voltage[k] : between(-most, most);
+        sample[V][k] = next_voltage(run);
+        for (int input = S1; input <= S3; input++)
+            sample[input][k] = same == input ? sample[V][k] : between(-most, most);
     }
-    fputs("block", stdout);
-    put_side(voltage, count);
-    fputs(" |", stdout);
-    put_side(current, count);
-    put_end();
+    put_even_block(sample[V], sample[S1], sample[S3], count);
 }
 
 /* Often such that the window is as aimed at the block's end, or W samples were seen, or one less; or an interval ends.
@@ -233,9 +220,16 @@ static void put_refused_start(void)
 /* Whatever is refused or empty leaves the window and both alarms as they are. */
 static void put_nothing(void)
 {
-    static const char *const nothing[] = {
-        "block 8388608 | 0", "block 0 | -8388609", "block 0 |", "block |", "block |", "hold 2",
-        "read 0 VA_RMS",     "read 1 VA_RMS",      "cards"};
+    static const char *const nothing[] = {"block 8388608 | 0 | 0",
+                                          "block 0 | -8388609 | 0",
+                                          "block 0 | 0 | 8388608",
+                                          "block 0 | 0 |",
+                                          "block | |",
+                                          "block | |",
+                                          "hold 2",
+                                          "read 0 VA_RMS",
+                                          "read 1 VA_RMS",
+                                          "cards"};
     uint64_t what = draw(10);
 
     if (what < 3) {

@@ -9,7 +9,7 @@
 
 enum { ONE = 2097152, LONGEST = 4096 };
 
-/* How many of an interval's samples on a side are meant to be clipped. */
+/* How many of an interval's samples of a slice are meant to be clipped. */
 enum share { NEVER, SOMETIMES, ALWAYS, SHARES };
 
 struct side {
@@ -25,8 +25,8 @@ struct probe {
 struct run {
     int64_t n, taken;
     struct probe force, waiting;
-    bool waits, closed, all;       /* all: every sample is to be clipped */
-    enum share voltages, currents; /* of the running interval */
+    bool waits, closed, all;  /* all: every sample is to be clipped */
+    enum share share[SLICES]; /* of the running interval */
 };
 
 /* Offset or gain alone can bring samples out of the range, or both together, or neither. */
@@ -89,37 +89,24 @@ static void begin_interval(struct run *run)
     if (run->waits)
         run->force = run->waiting;
     run->waits = false;
-    run->voltages = run->all ? ALWAYS : (enum share)draw(SHARES);
-    run->currents = run->all ? ALWAYS : (enum share)draw(SHARES);
-}
-
-/* A long side is written in plain decimal alone. */
-static void put_side(const int64_t *side, int64_t count)
-{
-    for (int64_t k = 0; k < count; k++)
-        if (count < 200)
-            put_number(side[k]);
-        else
-            printf(" %" PRId64, side[k]);
+    for (int which = 0; which < SLICES; which++)
+        run->share[which] = run->all ? ALWAYS : (enum share)draw(SHARES);
 }
 
 static void put_samples(struct run *run, int64_t count)
 {
-    static int64_t voltage[LONGEST], current[LONGEST];
+    static int64_t sample[SLICES][LONGEST];
 
     for (int64_t k = 0; k < count; k++) {
         if (run->taken == 0)
             begin_interval(run);
-        voltage[k] = any_raw(&run->force.voltage, is_meant(run->voltages));
-        current[k] = any_raw(&run->force.current, is_meant(run->currents));
+        for (int which = 0; which < SLICES; which++)
+            sample[which][k] =
+                any_raw(which == V ? &run->force.voltage : &run->force.current, is_meant(run->share[which]));
         run->taken = (run->taken + 1) % run->n;
         run->closed = run->closed || run->taken == 0;
     }
-    fputs("block", stdout);
-    put_side(voltage, count);
-    fputs(" |", stdout);
-    put_side(current, count);
-    put_end();
+    put_even_block(sample[V], sample[S1], sample[S3], count);
 }
 
 /* Often such that an interval closes and another runs. */
@@ -172,10 +159,11 @@ static void send_card(struct run *run)
 /* Whatever is refused or empty leaves every count as it is. */
 static void put_nothing(void)
 {
-    static const char *const nothing[] = {"block 8388608 | 0",
-                                          "block 0 | -8388609",
-                                          "block 0 |",
-                                          "block |",
+    static const char *const nothing[] = {"block 8388608 | 0 | 0",
+                                          "block 0 | -8388609 | 0",
+                                          "block 0 | 0 | 8388608",
+                                          "block 0 | 0 |",
+                                          "block | |",
                                           "start 0 1 0 0 0 0 0 0",
                                           "hold 2",
                                           "commit 1",
@@ -190,6 +178,7 @@ static void put_start(int64_t n)
     printf("start %" PRId64, n);
     put_number(PICK(1, 100, 16777216));
     fputs(" VA_RMS IA_RMS IA_PEAK WATT_A 0 0", stdout);
+    put_configuration(good_configuration());
     put_end();
 }
 

@@ -40,10 +40,10 @@ static void put_shorter(const char *name)
 
 static void put_nearly_name(void)
 {
-    static const char *const no_name[] = {"MIN7",     "MIN0",         "MAX7",   "MAX0",  "MIN",  "MAX",
-                                          "MIN10",    "OFF",          "VB_RMS", "W",     "GAIN", "VA",
-                                          "IB_CREST", "PA_POS_COUNT", "WATT-A", "0xPFA", "-PFA", "0PFA",
-                                          "PFA|",     "VA_RMS,",      "FIELD",  "MIN 1", "min1", "Max2"};
+    static const char *const no_name[] = {
+        "MIN7",   "MIN0",  "MAX7",     "MAX0", "MIN",  "MAX",     "MIN10", "OFF",   "VB_RMS",   "IB",
+        "WATT",   "PB",    "IB_RMS_A", "S1",   "S3",   "W",       "GAIN",  "VA",    "IC_CREST", "PB_POS_COUNT",
+        "WATT-B", "0xPFA", "-PFA",     "0PFA", "PFA|", "VA_RMS,", "FIELD", "MIN 1", "min1",     "Max2"};
     uint64_t how = draw(6);
     int slot = (int)PICK(0, 7, 7, 8, 10);
 
@@ -75,7 +75,9 @@ void put_odd_name(void)
         "read %s 0xBA",
         "write 0 1 %s",
         "hold %s",
-        "block %s | 1",
+        "block %s | 1 | 1",
+        "block 1 | 1 | %s",
+        "start 2 2 0 0 0 0 0 0 1 0 0 0 %s",
         "start %s 2 0 0 0 0 0 0",
     };
     const char *step = form[chance(80) ? draw(5) : draw(sizeof form / sizeof form[0])];

@@ -1,5 +1,5 @@
-/* script-no-load.c: a passage about SQUELCH: power of either sign while the current's root is just below it, at it or
-   just above it, or is 0. */
+/* script-no-load.c: a passage about SQUELCH: power of either sign while the root of a source is just below it, at it or
+   just above it, or is 0, and that of the other source is like it or another. */
 #include <inttypes.h>
 #include <stdio.h>
 
@@ -12,7 +12,9 @@ enum { ONE = 2097152, MOST_SAMPLES = 10 };
 /* What a probe sees, and a card made for it. Currents of one size give a root that is known beforehand. */
 struct probe {
     int64_t size, irmsoffs, squelch, poffs;
-    bool gives_back; /* P is below 0 */
+    bool gives_back;              /* P is below 0 */
+    int64_t other;                /* the size at the other input */
+    bool other_gives_back, at_s3; /* at_s3: the card is made for S3, and the other input is S1 */
 };
 
 /* At full voltage a current of 2 is the smallest that has power. */
@@ -24,9 +26,15 @@ static struct probe any_probe(bool gives_back)
     int64_t squelch = PICK(root - 1, root - 1, root, root, root + 1, root + 1, 0, 0, 1, between(0, HIGHEST));
     int64_t poffs = PICK(0, 0, 0, 0, 0, 1, 2, size);
 
-    if (squelch < 0)
-        squelch = 0;
-    return (struct probe){size, irmsoffs, at_most(squelch, HIGHEST), poffs, chance(20) ? !gives_back : gives_back};
+    int64_t other = at_most(PICK(size, size + 1, size - 1, size - 1, size * 2, size / 2, 0, between(0, 60)), HIGHEST);
+    struct probe probe = {size,  irmsoffs, at_most(squelch < 0 ? 0 : squelch, HIGHEST), poffs, gives_back, other,
+                          false, false};
+
+    if (chance(20))
+        probe.gives_back = !gives_back;
+    probe.other_gives_back = chance(50);
+    probe.at_s3 = chance(40);
+    return probe;
 }
 
 /* Slots for what a squelched interval shows as 0, and for the two that it leaves. */
@@ -39,6 +47,7 @@ static void put_tracking_start(int64_t n)
     put_number(PICK(1, 1, 1, 2, 3, 100, between(1, 100000)));
     for (uint64_t k = 0; k < 6; k++)
         printf(" %s", name[(first + k) % 7]);
+    put_configuration(PICK(0x96, 0x96, 0x96, 0x96, 0x96, 0x69, 0x16, 0x94, good_configuration()));
     put_end();
 }
 
@@ -51,17 +60,17 @@ static void put_probe(const struct probe *probe, int port)
 
 static void put_samples(const struct probe *probe, int64_t count)
 {
-    int64_t voltage[MOST_SAMPLES];
+    int64_t voltage[MOST_SAMPLES], current[MOST_SAMPLES], other[MOST_SAMPLES];
 
-    fputs("block", stdout);
     for (int64_t k = 0; k < count; k++) {
         voltage[k] = PICK(HIGHEST, HIGHEST, LOWEST, -HIGHEST);
-        put_number(voltage[k]);
+        current[k] = (voltage[k] < 0) == probe->gives_back ? probe->size : -probe->size;
+        other[k] = (voltage[k] < 0) == probe->other_gives_back ? probe->other : -probe->other;
     }
-    fputs(" |", stdout);
-    for (int64_t k = 0; k < count; k++)
-        put_number((voltage[k] < 0) == probe->gives_back ? probe->size : -probe->size);
-    put_end();
+    if (probe->at_s3)
+        put_even_block(voltage, other, current, count);
+    else
+        put_even_block(voltage, current, other, count);
 }
 
 /* One or two intervals of this probe; the next one's card is there behind them, or before the last sample. */

@@ -5,7 +5,7 @@
 #include "random.h"
 #include "script.h"
 
-enum { LONGEST_LINE = 131071, FULL_SIDE = 8192 };
+enum { LONGEST_LINE = 131071 };
 
 /* Numbers that are none, and some that are. */
 static const char *const number[] = {
@@ -122,41 +122,12 @@ static const char *const line[] = {
     "read 0  0x81",
     "read  0 0x81",
     "read 0,0x81",
-    "block",
-    "block ",
-    "block  |",
-    "block | ",
-    "block |  ",
-    "block||",
-    "block 1",
-    "block 1 2",
-    "block 1 |2",
-    "block 1| 2",
-    "block 1 | 2 |",
-    "block 1 | 2 | 3",
-    "block | |",
-    "block 1  | 2",
-    "block 1 |  2",
-    "block 1 | 2 ",
-    "block  1 | 2",
-    "block 1 | x",
-    "block x | 1",
-    "block |1",
-    "block|",
-    "blocks |",
-    "block 2147483648 | 1",
-    "block 1 | -2147483649",
-    "block 1 |",
-    "block | 1",
-    "block |",
-    "block 0x7 | 0X7",
     "|",
     "0",
     "hold 0|",
     "# | ",
     " # not a comment",
     "\xc3\xa9",
-    "block 1 2 | 1 2 3",
     "quit",
     "open 0 #",
     "drop 0 # x",
@@ -195,10 +166,18 @@ static const char *const line[] = {
     "read 0 x 1",
     "read IA_RMS",
     "read IA_RMS 0",
-    "block 1 x",
-    "block 1 VA_RMS | 1",
-    "block 1 ",
-    "block 1 9223372036854775808 | 1",
+    "start 1 1 0 0 0 0 0 0 1 0 0 0 x",
+    "start 1 1 0 0 0 0 0 0 1 0 0 0 ",
+    "start 1 1 0 0 0 0 0 0 1 0 0 0  150",
+    "start 1 1 0 0 0 0 0 0 1 0 0 0 256 x",
+    "start 1 1 0 0 0 0 0 0 1 0 0 0 256",
+    "start 1 1 0 0 0 0 0 0 1 0 0 0 -1",
+    "start 1 1 0 0 0 0 0 0 1 0 0 0 150 0",
+    "start 1 1 0 0 0 0 0 0 1 0 0 0 150 ",
+    "start 1 1 0 0 0 0 0 0 1 0 0 0 9223372036854775808",
+    "start 1 1 0 0 0 0 0 0 1 0 0 0 IA_RMS",
+    "start 1 1 IB_RMS 0 0 0 0 0",
+    "start 1 1 0 0 0 0 0 PB_NEG_CNT 1 0 0 0 150",
     "hold 0\r\r",
     "hold\r 0",
     "hold \r0",
@@ -208,9 +187,6 @@ static const char *const line[] = {
     "\r\r",
     "\r#",
     " \r",
-    "block 1\r | 1",
-    "block 1 |\r 1",
-    "block |\r",
     "write 0 VGAIN\r 1",
     "open 0 04\r17",
     "open 1 \r",
@@ -224,6 +200,7 @@ static void put_odd_number(void)
         "start 2 %s 0 0 0 0 0 0",
         "start 2 2 0 0 0 0 0 %s",
         "start 2 2 0 %s 0 0 0 0",
+        "start 2 2 0 0 0 0 0 0 1 0 0 0 %s",
         "open %s 0417",
         "write %s 1 0",
         "write 0 %s 0",
@@ -234,12 +211,15 @@ static void put_odd_number(void)
         "hold %s",
         "read %s 0x81",
         "read 0 %s",
-        "block %s | 1",
-        "block 1 | %s",
-        "block 1 %s | 1 2",
-        "block 1 2 | %s 1",
+        "block %s | 1 | 1",
+        "block 1 | %s | 1",
+        "block 1 | 1 | %s",
+        "block 1 %s | 1 2 | 1 2",
+        "block 1 2 | %s 1 | 1 2",
+        "block 1 2 | 1 2 | %s 1",
+        "block 1 2 | 1 2 | 1 %s",
     };
-    size_t starts = chance(10) ? 0 : 4; /* a start ends what went before */
+    size_t starts = chance(10) ? 0 : 5; /* a start ends what went before */
     size_t which = starts + draw(sizeof form / sizeof form[0] - starts);
     const char *gap = strchr(form[which], '%');
 
@@ -250,11 +230,24 @@ static void put_odd_number(void)
 }
 
 /* Lines that are steps, to be spoiled. */
-static const char *const good[] = {
-    "hold 0",           "commit 1", "drop 0",      "write 0 3 2097152", "read 1 0x1A1",
-    "block 1 -2 | 3 4", "block |",  "open 1 0417", "write 1 1 -8388",   "start 3 9 0x2B 0 0x8B 0 0 75",
-    "hold 0x1",         "cards",    "help",        "read 0 PA_POS_CNT", "write 0 IGAIN 2097152",
-    "read 1 MAX1"};
+static const char *const good[] = {"hold 0",
+                                   "commit 1",
+                                   "drop 0",
+                                   "write 0 3 2097152",
+                                   "read 1 0x1A1",
+                                   "block 1 -2 | 3 4 | 5 6",
+                                   "block | |",
+                                   "open 1 0417",
+                                   "write 1 1 -8388",
+                                   "start 3 9 0x2B 0 0x8B 0 0 75",
+                                   "hold 0x1",
+                                   "cards",
+                                   "help",
+                                   "read 0 PA_POS_CNT",
+                                   "write 0 IGAIN 2097152",
+                                   "read 1 MAX1",
+                                   "read 0 IB_CREST",
+                                   "start 3 9 0 0 0 0 0 0 1 0 0 0 150"};
 
 /* A good line with one byte too many, too few, or another. */
 static void put_spoiled(void)
@@ -287,7 +280,9 @@ void put_oddity(void)
 {
     size_t which = draw(sizeof line / sizeof line[0]);
 
-    if (chance(35))
+    if (chance(25))
+        put_odd_block();
+    else if (chance(35))
         put_odd_number();
     else if (chance(20))
         put_cut_or_longer();
@@ -321,8 +316,8 @@ static void put_times(char byte, size_t count)
 /* The beginning of a line, and then one byte as often as makes it this long, without a carriage return behind it. */
 void put_long_line(void)
 {
-    static const char *const beginning[] = {"open 0 ", "open 1 4", "open 7 ", "hold 0",    "hold 0x",
-                                            "# ",      "#",        "x",       "block 1 | "};
+    static const char *const beginning[] = {"open 0 ", "open 1 4", "open 7 ", "hold 0",        "hold 0x",
+                                            "# ",      "#",        "x",       "block 1 | 1 | "};
     const char *start = beginning[draw(sizeof beginning / sizeof beginning[0])];
     size_t length = (size_t)PICK(LONGEST_LINE - 1, LONGEST_LINE, LONGEST_LINE, LONGEST_LINE + 1, LONGEST_LINE + 1,
                                  LONGEST_LINE + 2, 2 * LONGEST_LINE + 2, 300000);
@@ -335,19 +330,6 @@ void put_long_line(void)
         fputs(chance(50) ? " 0" : "01", stdout);
     }
     puts(chance(50) ? "\r" : "");
-}
-
-/* A block with 8,192 samples on a side, and something behind them. */
-void put_full_side(void)
-{
-    static const char *const behind[] = {"",    " ",    " 1",   " x",   " |", " |1",
-                                         " |1", " | 1", " x |", " | |", "|",  " 2147483648"};
-
-    fputs(chance(50) ? "block" : "block |", stdout);
-    for (int k = 0; k < FULL_SIDE; k++)
-        fputs(" 1", stdout);
-    fputs(behind[draw(sizeof behind / sizeof behind[0])], stdout);
-    put_end();
 }
 
 void put_last_line(void)

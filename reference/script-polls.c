@@ -17,8 +17,12 @@ static void put_site_start(struct site *site)
     put_number(PICK(1, 1, 100, 65536, 16777216));
     for (int k = 0; k < TRACKED; k++)
         put_word(site->slots >> k & 1 ? word[draw(7)] : 0);
-    if (chance(50)) /* a sag that stays, for a poll to leave it set */
+    if (chance(50)) { /* a sag that stays, for a poll to leave it set */
         fputs(" 1 8388607 0 0x200000", stdout);
+        put_number(good_configuration());
+    } else {
+        put_configuration(good_configuration());
+    }
     put_end();
 }
 
@@ -36,23 +40,22 @@ static void put_any_card(int port)
     put_card(value, port);
 }
 
-static void put_side(int64_t most, int64_t count)
+static void fill(int64_t sample[LONGEST], int64_t most, int64_t count)
 {
-    for (; count > 0; count--)
-        put_number(between(-most, most));
+    for (int64_t k = 0; k < count; k++)
+        sample[k] = between(-most, most);
 }
 
 /* Mostly the rest of the interval, so that it closes; sometimes several, sometimes less than one. */
 static void put_samples(struct site *site)
 {
     int64_t left = site->n - site->taken, count = PICK(left, left, left, left + site->n, left - 1, between(1, LONGEST));
-    int64_t volts = PICK(HIGHEST, HIGHEST, 5000000, 300000, 700), amperes = PICK(HIGHEST, 5000000, 70000, 900, 5);
+    int64_t sample[SLICES][LONGEST];
 
-    fputs("block", stdout);
-    put_side(volts, count);
-    fputs(" |", stdout);
-    put_side(amperes, count);
-    put_end();
+    fill(sample[V], PICK(HIGHEST, HIGHEST, 5000000, 300000, 700), count);
+    fill(sample[S1], PICK(HIGHEST, 5000000, 70000, 900, 5), count);
+    fill(sample[S3], PICK(HIGHEST, 5000000, 70000, 900, 5), count);
+    put_even_block(sample[V], sample[S1], sample[S3], count);
     site->closed = site->closed || count >= left;
     site->taken = (site->taken + count) % site->n;
 }
@@ -68,7 +71,7 @@ static void put_reads(int port, int64_t count)
 {
     for (; count > 0; count--) {
         put_step("read", port);
-        put_address(register_address((int)(chance(75) ? draw(7) : draw(REGISTERS))));
+        put_address(register_address((int)(chance(75) ? draw(PLAIN) : draw(REGISTERS))));
         put_end();
     }
 }

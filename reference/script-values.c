@@ -132,7 +132,8 @@ int64_t good_bucket(void)
 
 static int64_t table_word(int which)
 {
-    static const int64_t word[PLAIN] = {0x2B, 0x3E, 0x46, 0x4B, 0x4E, 0x65, 0x8B, 0x8F, 0x92};
+    static const int64_t word[PLAIN] = {0x2B, 0x3E, 0x46, 0x4B, 0x4E, 0x65, 0x8B, 0x8F, 0x92,
+                                        0x3F, 0x47, 0x4C, 0x4F, 0x66, 0x8C, 0x95, 0x98};
 
     return which < PLAIN ? word[which] : 0x71 + which - PLAIN;
 }
@@ -147,8 +148,10 @@ const char *field_name(int field)
 const char *register_name(int which)
 {
     static const char *const name[REGISTERS] = {
-        "VA_RMS", "IA_RMS", "IA_PEAK", "WATT_A", "VA_A", "PFA",  "IA_CREST", "PA_POS_CNT", "PA_NEG_CNT", "MIN1", "MIN2",
-        "MIN3",   "MIN4",   "MIN5",    "MIN6",   "MAX1", "MAX2", "MAX3",     "MAX4",       "MAX5",       "MAX6",
+        "VA_RMS",     "IA_RMS", "IA_PEAK", "WATT_A", "VA_A", "PFA",  "IA_CREST", "PA_POS_CNT",
+        "PA_NEG_CNT", "IB_RMS", "IB_PEAK", "WATT_B", "VA_B", "PFB",  "IB_CREST", "PB_POS_CNT",
+        "PB_NEG_CNT", "MIN1",   "MIN2",    "MIN3",   "MIN4", "MIN5", "MIN6",     "MAX1",
+        "MAX2",       "MAX3",   "MAX4",    "MAX5",   "MAX6",
     };
 
     return name[which];
@@ -187,14 +190,14 @@ void put_address(int64_t address)
 
 int64_t good_word(void)
 {
-    return chance(25) ? 0 : table_word((int)draw(7));
+    return chance(25) ? 0 : table_word((int)draw(TRACKABLE));
 }
 
 int64_t bad_word(void)
 {
-    int64_t good = table_word((int)draw(7));
+    int64_t good = table_word((int)draw(TRACKABLE)), other = table_word((int)between(TRACKABLE, PLAIN - 1));
 
-    return PICK(0x8F, 0x92, 0x71, 0x7C, 1, -1, good + 1, good * 3, -good, bad_number(good));
+    return PICK(other, other, other, other, 0x71, 0x7C, 1, -1, good + 1, good * 3, -good, bad_number(good));
 }
 
 int64_t register_address(int which)
@@ -204,10 +207,36 @@ int64_t register_address(int which)
 
 int64_t bad_address(void)
 {
-    int64_t word = table_word((int)draw(21)), byte = 3 * word;
+    int64_t word = table_word((int)draw(REGISTERS)), byte = 3 * word;
 
-    return PICK(byte + 1, byte - 1, word, 0, 0x154, 0x150, 0x177, 0x1AE, byte + 3 * 65536, -byte, 65539,
-                bad_number(byte));
+    return PICK(byte + 1, byte - 1, byte + 3, byte - 3, word, 0, 0x154, 0x150, 0x177, 0x1AE, byte + 3 * 65536, -byte,
+                65539, bad_number(byte));
+}
+
+/* Mostly one input a source, the usual one often; then every other. */
+int64_t good_configuration(void)
+{
+    int64_t any = between(0, 255);
+
+    return PICK(0x96, 0x96, 0x96, 0x96, 0x69, 0x66, 0x99, 0, 255, any, any, any);
+}
+
+int64_t bad_configuration(void)
+{
+    int64_t good = between(0, 255), far = PICK(8, 16, 32, 48, 62);
+
+    return PICK(256, 256, 256, -1, -1, 0x196, -0x96, good + (INT64_C(1) << far), INT64_MAX, INT64_MIN + good);
+}
+
+void put_configuration(int64_t configuration)
+{
+    static const int64_t lowest[] = {1, 0, 0, 0};
+    int64_t items = configuration == 0 && chance(70) ? between(0, 4) : 5;
+
+    for (int64_t k = 0; k < items && k < 4; k++)
+        put_number(lowest[k]);
+    if (items == 5)
+        put_number(configuration);
 }
 
 void put_serial(void)

@@ -6,7 +6,11 @@
 #include <stddef.h>
 #include <stdint.h>
 
-enum { PLAIN = 9, TRACKED = 6, REGISTERS = PLAIN + 2 * TRACKED };
+#include "sources.h"
+
+/* The registers, in the order of register_address: VA_RMS, eight of IA, eight of IB, then MIN1 to MIN6 and MAX1 to
+ * MAX6. */
+enum { TRACKABLE = 7, PLAIN = 17, TRACKED = 6, REGISTERS = PLAIN + 2 * TRACKED };
 
 /* What kind of figures the script is about, from one start to the next. */
 enum manner {
@@ -41,7 +45,10 @@ int64_t good_samples(void);
 int64_t good_bucket(void);
 int64_t good_word(void);
 int64_t bad_word(void);
-int64_t register_address(int which); /* 0 to 20 */
+int64_t register_address(int which);
+int64_t good_configuration(void);
+int64_t bad_configuration(void);
+void put_configuration(int64_t configuration); /* with the settings before it at their lowest, or left out if it is 0 */
 int64_t bad_address(void);
 const char *field_name(int field); /* 1 to 8 */
 const char *register_name(int which);
@@ -55,13 +62,18 @@ void put_card(const int64_t value[8], int port); /* open, the fields in their or
 
 /* Blocks (script-blocks.c). */
 void put_block(struct belief *belief);
+void put_slice(const int64_t *sample, size_t count); /* a space before each; a long one in plain decimal alone */
+void put_even_block(const int64_t *v, const int64_t *s1, const int64_t *s3, int64_t count);
 
 /* Lines that are no step, or hardly one (script-oddities.c). */
 void put_oddity(void);
 void put_silence(void);
 void put_long_line(void);
-void put_full_side(void);
 void put_last_line(void);
+
+/* Lines that are nearly a block (script-block-lines.c). */
+void put_odd_block(void);
+void put_full_slice(void);
 
 /* A hold, and a read of every register: says how many steps it took (make-script.c). */
 int whole_reading(struct belief *belief, int port);
@@ -114,6 +126,9 @@ void packet_damage(struct packet *packet);
 void put_poll(const struct packet *packet, int64_t room);
 void put_odd_poll(void);
 void put_long_poll(void);
+
+/* The sources IA and IB by every configuration, on fresh modules (script-sources.c). */
+void put_sources(void);
 
 /* Packets of the serial line, with holds and reads at port 1 between them, on fresh modules (script-polls.c). */
 void put_polls(void);

@@ -12,8 +12,8 @@ const char *unread_words(enum unread unread)
         [NO_FIELD] = "neither a 64-bit number nor a field's name",
         [NO_REGISTER] = "neither a 64-bit number nor a register's name",
         [MORE_ITEMS] = "more items than the step has",
-        [NO_BAR] = "no bar between voltages and currents",
-        [MORE_SAMPLES] = "more than 8,192 samples on a side",
+        [FEW_BARS] = "fewer than two bars",
+        [MORE_SAMPLES] = "more than 8,192 samples in a slice",
         [NO_SAMPLE] = "not a 32-bit number",
         [NO_ROOM] = "not a number from 0 to 255",
         [NO_BYTE] = "not two hexadecimal digits",
@@ -48,19 +48,21 @@ const char *refusal_words(int refusal)
 }
 
 const char help_lines[] =
-    "# start N B SLOT SLOT SLOT SLOT SLOT SLOT [W [VSAG [VSURGE [STICKY]]]]: N samples an interval, energy buckets of "
-    "B, six registers to track or 0\n"
+    "# start N B SLOT SLOT SLOT SLOT SLOT SLOT [W [VSAG [VSURGE [STICKY [CONFIG]]]]]: N samples an interval, energy "
+    "buckets of B, six registers to track or 0\n"
     "#   W samples in half a cycle, sag and surge levels or 0 (off), and the alarms that stay set: a mask as of reset; "
     "left out: 1 0 0 0\n"
+    "#   CONFIG, 0 to 255, makes the sources IA and IB of S1 and S3: 0x96 has IA S1 and IB S3; left out: 0, by which "
+    "each is half of -S1 - S3\n"
     "# open PORT SERIAL: begins a card; ports are 0 and 1\n"
     "# write PORT FIELD VALUE: VOFFS IOFFS VGAIN IGAIN PHASE IRMSOFFS SQUELCH POFFS, or 1 to 8\n"
     "# commit PORT: the card is whole and waits for the next interval\n"
     "# drop PORT: the card is forgotten\n"
-    "# block VOLTAGES | CURRENTS: samples, at most 4,096 a side\n"
+    "# block V | S1 | S3: samples of the voltage and of the two current inputs, at most 4,096 a slice\n"
     "# reset MASK: clears alarms: 0x200000 sag, 0x200 surge, 0x200200 both\n"
-    "# hold PORT: keeps the last closed interval; answers its number, its card's serial, how many of its voltages and "
-    "currents were clipped, and both alarms as they are now\n"
-    "# read PORT REGISTER: of what is held; a name (VA_RMS, WATT_A, PA_POS_CNT, MIN1 ..) or a byte address\n"
+    "# hold PORT: keeps the last closed interval; answers its number, its card's serial, how many of its samples of V, "
+    "of S1 and of S3 were clipped, and both alarms as they are now\n"
+    "# read PORT REGISTER: of what is held; a name (VA_RMS, WATT_A, WATT_B, PA_POS_CNT, MIN1 ..) or a byte address\n"
     "# poll ROOM BYTES: a packet of the serial line, its bytes as two hexadecimal digits each; answers the reply's "
     "bytes; ROOM bytes are lent for it\n"
     "# cards: the serials of the card in force and of the one that waits\n"

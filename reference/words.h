@@ -12,7 +12,7 @@ enum unread {
     NO_FIELD,
     NO_REGISTER,
     MORE_ITEMS,
-    NO_BAR,
+    FEW_BARS,
     MORE_SAMPLES,
     NO_SAMPLE,
     NO_ROOM,

@@ -7,18 +7,20 @@ from itertools import groupby
 from pathlib import Path
 
 from alarms import Alarms, named
+from sources import sources
 from ssi import CODES, DATA, reads_of
 
 ROOT = Path(__file__).resolve().parent.parent
 
 FIELDS = ("VOFFS", "IOFFS", "VGAIN", "IGAIN", "PHASE", "IRMSOFFS", "SQUELCH", "POFFS")
 REGISTERS = {0x2B: "VA_RMS", 0x3E: "IA_RMS", 0x46: "IA_PEAK", 0x4B: "WATT_A", 0x4E: "VA_A", 0x65: "PFA", 0x8B: "IA_CREST",
-             0x8F: "PA_POS_CNT", 0x92: "PA_NEG_CNT", **{0x71 + k: f"MIN{k + 1}" for k in range(6)},
+             0x8F: "PA_POS_CNT", 0x92: "PA_NEG_CNT", 0x3F: "IB_RMS", 0x47: "IB_PEAK", 0x4C: "WATT_B", 0x4F: "VA_B", 0x66: "PFB",
+             0x8C: "IB_CREST", 0x95: "PB_POS_CNT", 0x98: "PB_NEG_CNT", **{0x71 + k: f"MIN{k + 1}" for k in range(6)},
              **{0x77 + k: f"MAX{k + 1}" for k in range(6)}}
 FIELD_NAMES = {name: k for k, name in enumerate(FIELDS, 1)}
 WORDS = {name: word for word, name in REGISTERS.items()}
 BYTES = {name: 3 * word for word, name in REGISTERS.items()}
-COUNTS = ("PA_POS_CNT", "PA_NEG_CNT")       # never below 0, where every other register of 24 bits has a sign
+COUNTS = ("PA_POS_CNT", "PA_NEG_CNT", "PB_POS_CNT", "PB_NEG_CNT")     # never below 0, where every other register has a sign
 STEPS = ("start", "open", "write", "commit", "drop", "hold", "read", "poll", "block", "reset", "cards")
 NO_PORT = ("start", "poll", "block", "reset", "cards")
 LANES = {"module": "the module", "fitter 0": "fitter, port 0", "fitter 1": "fitter, port 1",
@@ -62,6 +64,14 @@ def several(count, what):
     return f"{count:,} {what}{'' if count == 1 else 's'}"
 
 
+def polled(packet, reply):
+    """The registers of a reply with data, by name and with their values: those that the packet reads."""
+    names = [REGISTERS[byte // 3] for byte in reads_of(packet)]
+    if len(reply) != 3 * len(names) + 3:
+        raise Wrong(f"the packet reads {several(len(names), 'register')}")
+    return [(name, int.from_bytes(reply[2 + 3 * k:5 + 3 * k], "little", signed=name not in COUNTS)) for k, name in enumerate(names)]
+
+
 class Card:
     """A card of a session: its fields, those that are not told yet, where it was committed and from which sample on it counts."""
 
@@ -90,7 +100,8 @@ class Session:
     """What happened, from the steps and their answers."""
 
     def __init__(self, steps):
-        self.volts, self.amps, self.intervals, self.all_cards, self.boxes, self.starts = [], [], [], [], [], []
+        self.volts, self.s1, self.s3 = [], [], []
+        self.intervals, self.all_cards, self.boxes, self.starts = [], [], [], []
         self.alarmed = []       # for each sample, the alarms that the half cycle gives after it and those that are set
         self.resets = []        # where alarms were cleared, and which
         self.levels = False     # whether a start had a level
@@ -146,7 +157,7 @@ class Session:
         return not self.ok
 
     def start(self, n, bucket, *items):
-        at, slots, settings = len(self.volts), items[:6], items[6:]
+        at, slots, settings, config = len(self.volts), items[:6], items[6:10], items[10:] or ("0",)
         if self.refused("module", "start"):
             return
         self.starts.append(at)
@@ -155,6 +166,7 @@ class Session:
         self.say("module", f"bucket {number(bucket):,}")
         tracked = [f"{k + 1} {REGISTERS[number(word, WORDS)]}" for k, word in enumerate(slots) if number(word, WORDS)]
         self.say("module", f"tracks in slot {', '.join(tracked)}" if tracked else "no slot tracks")
+        self.say("module", sources(*map(number, config)))
         self.levels = self.levels or self.alarms.on
         for line in self.alarms.levels():
             self.say("module", line)
@@ -209,18 +221,19 @@ class Session:
             self.say(lane, "dropped", INK, self.desks.pop(port)).full = True
 
     def block(self, *words):
-        bar = words.index("|")
-        if self.refused("module", f"block of {bar}"):
+        sides = [side.split() for side in " ".join(words).split("|")]
+        if self.refused("module", f"block of {len(sides[0])}"):
             return
         self.say_written()
-        for v, i in zip(words[:bar], words[bar + 1:]):
-            self.sample(number(v), number(i))
+        for sample in zip(*sides, strict=True):
+            self.sample(*map(number, sample))
 
-    def sample(self, volts, amps):
+    def sample(self, volts, s1, s3):
         if self.running is None:
             self.first_sample()
         self.volts.append(volts)
-        self.amps.append(amps)
+        self.s1.append(s1)
+        self.s3.append(s3)
         self.alarms.sample(clipped(corrected(volts, self.force.fields[1], self.force.fields[3])))
         self.alarmed.append((self.alarms.met, self.alarms.set))
         if len(self.volts) - self.running == self.n:
@@ -263,14 +276,14 @@ class Session:
             return
         first, end, count, card = self.last_closed()
         voltages = outside(self.volts[first:end], card.fields[1], card.fields[3])
-        currents = outside(self.amps[first:end], card.fields[2], card.fields[4])
-        counts = f"{several(voltages, 'voltage')}, {several(currents, 'current')}"
-        if self.answer != f"ok {count} {card.serial} {voltages} {currents} {self.alarms.answer()}":
+        s1, s3 = (outside(raws[first:end], card.fields[2], card.fields[4]) for raws in (self.s1, self.s3))
+        counts = f"{several(voltages, 'voltage')}, {s1:,} of S1, {s3:,} of S3"
+        if self.answer != f"ok {count} {card.serial} {voltages} {s1} {s3} {self.alarms.answer()}":
             raise Wrong(f"{self.line}: answered {self.answer!r}, but by the steps before it the last interval is {count} with card "
                         f"{card.serial}, clipped: {counts}; alarms set: {named(self.alarms.set)}")
         self.held[port] = self.closed
         self.say(f"reader {port}", f"hold: interval {count}, card {card.serial}", card.colour[0], card)
-        if voltages or currents:
+        if voltages or s1 or s3:
             self.say(f"reader {port}", f"clipped: {counts}", INK, card)
         if self.alarms.on:
             self.say(f"reader {port}", f"set at the hold: {named(self.alarms.set)}", INK, card)
@@ -296,12 +309,12 @@ class Session:
             self.say("reader 1", f"poll: {CODES[reply[0]] if reply else 'no reply'}")
             return
         _, _, count, card = self.held[1] = self.last_closed()
-        registers = [REGISTERS[byte // 3] for byte in reads_of(bytes.fromhex("".join(packet)))]
-        if len(reply) != 3 * len(registers) + 3:
-            raise Wrong(f"{self.line[:80]}: answered {self.answer[:80]!r}, but the packet reads {several(len(registers), 'register')}")
+        try:
+            registers = polled(bytes.fromhex("".join(packet)), reply)
+        except Wrong as why:
+            raise Wrong(f"{self.line[:80]}: answered {self.answer[:80]!r}, but {why}") from why
         self.say("reader 1", f"poll: interval {count}, card {card.serial}", card.colour[0], card)
-        for k, name in enumerate(registers):
-            value = int.from_bytes(reply[2 + 3 * k:5 + 3 * k], "little", signed=name not in COUNTS)
+        for name, value in registers:
             self.say("reader 1", f"{name} {value:,}", INK, card)
 
 

@@ -49,7 +49,7 @@ read-decided = record { always = λ κs a. tt; determined = λ κs a p z z′ ws
 pub poll-decided : Decided 2 polls-k.ps polls-k.r polls.Pre polls.Post
 poll-decided = record { always = λ κs a. tt; determined = λ κs a p z z′ ws ws′ q q′. (q .0 ∙ sym (q′ .0), λ i. (tt, (tt, ((q .1 ∙ sym (q′ .1)) i, tt)))) }
 
-pub block-decided : Decided 2 blocks-k.ps blocks-k.r blocks.Pre blocks.Post
+pub block-decided : Decided 3 blocks-k.ps blocks-k.r blocks.Pre blocks.Post
 block-decided = record { always = λ κs a. tt; determined = λ κs a p z z′ ws ws′ q q′. (q ∙ sym q′, refl) }
 
 pub reset-decided : Decided 0 resets-k.ps resets-k.r resets.Pre resets.Post

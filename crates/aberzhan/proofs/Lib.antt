@@ -1,11 +1,6 @@
--- Laws of the module, what its contracts allow, and that it is what the steps of crate `steps` do.
+-- Laws of the module: what its functions put together is what the definitions give, and each public contract decides its outcome.
 pub mod Starts
 pub mod Sides
 pub mod Steps
 pub mod Polls
-pub mod Soundness
 pub mod Decided
-pub mod Contracts
-pub mod Told
-pub mod Agreement
-pub mod Counting

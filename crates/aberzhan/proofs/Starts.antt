@@ -10,38 +10,44 @@ use Rattle.alarm.specs.declared.Asked.{Asked}
 use Rattle.alarm.specs.declared.Started.{Started as Watched}
 use Rattle.alarm.specs.Starting.{askedOk, limitsIn, freshWatch, lowestWatch, startOf as watchStart}
 use Rattle.meter.specs.declared.Started.{Started as Metered}
-use Rattle.meter.specs.Starting.{numbersOk, freshOf, lowestMeter, startOf as meterStart}
+use Rattle.meter.specs.Starting.{numbersOk, configOk, freshOf, lowestMeter, startOf as meterStart}
 use Rattle.aberzhan.specs.declared.Stepped.{Stepped}
 use Rattle.aberzhan.specs.Module.{freshModule, settingsOk, startOf}
 
-module _ (n b : ℤ) (track : List WordAddr) (asked : Asked) where
+module _ (n b : ℤ) (track : List WordAddr) (asked : Asked) (config : ℤ) where
   abbrev metered : Bool → Metered
-  metered s = cond s (record { ok = true; meter = freshOf (natAbs n) (natAbs b) track }) (record { ok = false; meter = lowestMeter })
+  metered s = cond s (record { ok = true; meter = freshOf (natAbs n) (natAbs b) track (natAbs config) }) (record { ok = false; meter = lowestMeter })
 
   abbrev watched : Bool → Watched
   watched t = cond t (record { ok = true; watch = freshWatch (limitsIn asked) }) (record { ok = false; watch = lowestWatch })
 
   abbrev begun : Bool → Stepped
   begun s =
-      cond s (record { answer = Done; after = freshModule (freshOf (natAbs n) (natAbs b) track) (freshWatch (limitsIn asked)) })
+      cond s (record { answer = Done; after = freshModule (freshOf (natAbs n) (natAbs b) track (natAbs config)) (freshWatch (limitsIn asked)) })
       (record { answer = Refused 7; after = freshModule lowestMeter lowestWatch })
 
-  done-by : (s t : Bool) → metered s .ok && watched t .ok ≡ true → record { answer = Done; after = freshModule (metered s .meter) (watched t .watch) } ≡ begun (s && t)
-  done-by true true e = refl
-  done-by true false e = absurd (true≢false (sym e))
-  done-by false t e = absurd (true≢false (sym e))
+  -- s: the numbers and the words are in range, t: what is asked of the watch, k: the configuration
+  done-by : (s t k : Bool) → metered (s && k) .ok && watched t .ok ≡ true →
+      record { answer = Done; after = freshModule (metered (s && k) .meter) (watched t .watch) } ≡ begun (s && t && k)
+  done-by true true true e = refl
+  done-by true true false e = absurd (true≢false (sym e))
+  done-by true false true e = absurd (true≢false (sym e))
+  done-by true false false e = absurd (true≢false (sym e))
+  done-by false t k e = absurd (true≢false (sym e))
 
-  refused-by : (s t : Bool) → metered s .ok && watched t .ok ≡ false → record { answer = Refused 7; after = freshModule lowestMeter lowestWatch } ≡ begun (s && t)
-  refused-by true true e = absurd (true≢false e)
-  refused-by true false e = refl
-  refused-by false t e = refl
+  refused-by : (s t k : Bool) → metered (s && k) .ok && watched t .ok ≡ false →
+      record { answer = Refused 7; after = freshModule lowestMeter lowestWatch } ≡ begun (s && t && k)
+  refused-by true true true e = absurd (true≢false e)
+  refused-by true true false e = refl
+  refused-by true false k e = refl
+  refused-by false t k e = refl
 
-  pub start-done : meterStart n b track .ok && watchStart asked .ok ≡ true →
-      record { answer = Done; after = freshModule (meterStart n b track .meter) (watchStart asked .watch) } ≡ startOf n b track asked
+  pub start-done : meterStart n b track config .ok && watchStart asked .ok ≡ true →
+      record { answer = Done; after = freshModule (meterStart n b track config .meter) (watchStart asked .watch) } ≡ startOf n b track asked config
   unfolding meterStart watchStart settingsOk startOf
-  start-done e = done-by (numbersOk n b && everySlot track) (askedOk asked) e
+  start-done e = done-by (numbersOk n b && everySlot track) (askedOk asked) (configOk config) e
 
-  pub start-refused : meterStart n b track .ok && watchStart asked .ok ≡ false →
-      record { answer = Refused 7; after = freshModule lowestMeter lowestWatch } ≡ startOf n b track asked
+  pub start-refused : meterStart n b track config .ok && watchStart asked .ok ≡ false →
+      record { answer = Refused 7; after = freshModule lowestMeter lowestWatch } ≡ startOf n b track asked config
   unfolding meterStart watchStart settingsOk startOf
-  start-refused e = refused-by (numbersOk n b && everySlot track) (askedOk asked) e
+  start-refused e = refused-by (numbersOk n b && everySlot track) (askedOk asked) (configOk config) e

@@ -20,7 +20,7 @@ use Rattle.alarm.specs.Masks.{noAlarms}
 use Rattle.alarm.specs.Alarms.{Watching, both, resetOf as watchReset}
 use Rattle.alarm.specs.Starting.{askedOk, limitsIn, freshWatch, lowestWatch, noVolts}
 use Rattle.meter.specs.Blocks.{waitOf, blockOf as meterBlock, voltsOf}
-use Rattle.meter.specs.Starting.{numbersOk, freshOf, lowestMeter}
+use Rattle.meter.specs.Starting.{numbersOk, configOk, freshOf, lowestMeter}
 use Rattle.desk.specs.declared.Desk.{Desk}
 use Rattle.port.specs.declared.Held.{Held}
 use Rattle.port.specs.declared.Reading.the-variants.{Refused as NotRead}
@@ -112,7 +112,7 @@ dropOf m port = atPort (portAt port) (refusal 8 m) (λ p. atDesk m p (dropping (
 -- ---- readings
 
 -- hold: 8, 14. Returns the interval's number, its serial and its counts of clipped samples, and the alarms as they are now; replaces an earlier
--- hold. No serial, no alarm and all three numbers 0 if it is refused.
+-- hold. No serial, no alarm and all numbers 0 if it is refused.
 abbrev pub notHeld : ℕ → Module → Holding
 notHeld n m = record { answer = Refused n; number = 0; serial = noSerial; clips = noClips; alarms = noAlarms; after = m }
 
@@ -138,11 +138,11 @@ readOf m port a = record { answer = atPort (portAt port) (NotRead 8) (λ p. look
 
 -- ---- samples, a reset, and the start
 
--- block: 5, 6, 18
-unfoldable pub blockOf : Module → List ℤ → List ℤ → Stepped
-blockOf m v i =
-    let r = meterBlock (m .meter) (watchOf m) v i in
-    record { answer = r .answer; after = withMeter (r .after) (withWatch (both (r .watch) (voltsOf (m .meter) (watchOf m) v i)) m) }
+-- block, of voltages and both inputs: 5, 6, 18
+unfoldable pub blockOf : Module → List ℤ → List ℤ → List ℤ → Stepped
+blockOf m v s1 s3 =
+    let r = meterBlock (m .meter) (watchOf m) v s1 s3 in
+    record { answer = r .answer; after = withMeter (r .after) (withWatch (both (r .watch) (voltsOf (m .meter) (watchOf m) v s1 s3)) m) }
 
 -- reset: 12
 unfoldable pub resetOf : Module → ℤ → Stepped
@@ -153,11 +153,11 @@ unfoldable pub freshModule : Meter → Watch → Module
 freshModule m a = record { meter = m; watch = a; volts = noVolts; desk0 = shutDesk; desk1 = shutDesk; hold0 = nothingHeld; hold1 = nothingHeld }
 
 -- start: 7, if any setting is out of range; then all are at their lowest
-unfoldable pub settingsOk : ℤ → ℤ → List WordAddr → Asked → Bool
-settingsOk n b track asked = numbersOk n b && everySlot track && askedOk asked
+unfoldable pub settingsOk : ℤ → ℤ → List WordAddr → Asked → ℤ → Bool
+settingsOk n b track asked config = numbersOk n b && everySlot track && askedOk asked && configOk config
 
-unfoldable pub startOf : ℤ → ℤ → List WordAddr → Asked → Stepped
-startOf n b track asked =
-    cond (settingsOk n b track asked)
-    (record { answer = Done; after = freshModule (freshOf (natAbs n) (natAbs b) track) (freshWatch (limitsIn asked)) })
+unfoldable pub startOf : ℤ → ℤ → List WordAddr → Asked → ℤ → Stepped
+startOf n b track asked config =
+    cond (settingsOk n b track asked config)
+    (record { answer = Done; after = freshModule (freshOf (natAbs n) (natAbs b) track (natAbs config)) (freshWatch (limitsIn asked)) })
     (record { answer = Refused 7; after = freshModule lowestMeter lowestWatch })

@@ -121,11 +121,11 @@ impl Module {
         }
     }
 
-    // A start with N, B, the six words to track, and what is asked of the watch: 7.
-    pub fn start(n: i64, b: i64, track: [WordAddr; 6], asked: Asked) -> Stepped
-        ensures { λ r. ⌜ r ≡ startOf n b track asked ⌝ }
+    // A start with N, B, the six words to track, what is asked of the watch, and the board's configuration: 7.
+    pub fn start(n: i64, b: i64, track: [WordAddr; 6], asked: Asked, config: i64) -> Stepped
+        ensures { λ r. ⌜ r ≡ startOf n b track asked config ⌝ }
     {
-        let r = meter::start(n, b, track);
+        let r = meter::start(n, b, track, config);
         let w = alarm::start(asked);
         if r.ok & w.ok {
             let after = Module::fresh(r.meter, w.watch);
@@ -286,7 +286,7 @@ impl Module {
             answer: Answer::Refused(8),
             number: 0,
             serial: none,
-            clips: Clips { v: 0, i: 0 },
+            clips: Clips::unclipped(),
             alarms: Alarms {
                 sag: false,
                 surge: false,
@@ -342,13 +342,13 @@ impl Module {
         self.poll_of(own, replied)
     }
 
-    // A block of samples, voltage and current: 5, 6, 18.
-    pub fn block(mut self, v: &[i32], i: &[i32]) -> Stepped
-        ensures { λ r. ⌜ r ≡ blockOf self (now (v .entry)) (now (i .entry)) ⌝ }
+    // A block of samples, voltage and both inputs: 5, 6, 18.
+    pub fn block(mut self, v: &[i32], s1: &[i32], s3: &[i32]) -> Stepped
+        ensures { λ r. ⌜ r ≡ blockOf self (now (v .entry)) (now (s1 .entry)) (now (s3 .entry)) ⌝ }
     {
         let m = self.meter;
         let a = self.watch;
-        let r = m.block(a, &mut self.volts, v, i);
+        let r = m.block(a, &mut self.volts, v, s1, s3);
         let said = r.answer;
         let after = r.after;
         let watch = r.watch;

@@ -16,9 +16,9 @@ use Rattle.halfcycle.specs.History.{Came, voltagesOf, lastSquares, metBy, Meant
 use Rattle.halfcycle.proofs.History.{meant}
 use Rattle.meter.specs.Core.{core, resetWatch}
 use Rattle.aberzhan.specs.declared.Module.{Module}
-use Rattle.aberzhan.specs.Ports.{ports, aberzhan}
+use Rattle.calls.specs.Ports.{ports, aberzhan}
 use Rattle.aberzhan.specs.Module.{watchOf, freshModule}
-use Rattle.aberzhan.specs.Calls.{stateOf}
+use Rattle.calls.specs.Calls.{stateOf}
 use Rattle.demands.specs.Program.{first, limits, steps, ran}
 use Rattle.demands.specs.Intervals.{samplesWithCards}
 use Rattle.demands.specs.Alarms.{openOf, correctedOf, cameAs, masksOf, cameOf, EveryAlarm}

@@ -14,7 +14,7 @@ use Rattle.alarm.specs.Starting.{limitsOf, limitsIn, freshWatch, lowestLimits, 
 use Rattle.meter.specs.Starting.{freshOf, lowestMeter}
 use Rattle.aberzhan.specs.declared.Stepped.{Stepped}
 use Rattle.aberzhan.specs.Module.{freshModule, settingsOk, startOf}
-use Rattle.aberzhan.proofs.Contracts.{start-is}
+use Rattle.calls.proofs.Contracts.{start-is}
 use Rattle.demands.specs.Beginning.{Fresh, lowestSettings, askedLimits, refusedLimits, EveryStart}
 
 module _ (n b : ℤ) (track : List WordAddr) (asked : Asked) where

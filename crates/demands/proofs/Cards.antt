@@ -9,9 +9,9 @@ use Rattle.card.specs.declared.Card.{Card}
 use Rattle.meter.specs.Core.{core}
 use Rattle.aberzhan.specs.declared.Module.{Module}
 use Rattle.aberzhan.specs.declared.Cards.{Cards}
-use Rattle.aberzhan.specs.Ports.{aberzhan}
+use Rattle.calls.specs.Ports.{aberzhan}
 use Rattle.aberzhan.specs.Cards.{serialIf, cardsOf}
-use Rattle.aberzhan.proofs.Contracts.{shown-is}
+use Rattle.calls.proofs.Contracts.{shown-is}
 use Rattle.demands.specs.Program.{first}
 use Rattle.demands.specs.Beginning.{Fresh}
 use Rattle.demands.specs.Cards.{inWait, serialShown, CardsShown}

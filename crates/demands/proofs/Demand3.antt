@@ -29,12 +29,12 @@ use Rattle.meter.proofs.Sound.{sound-yes}
 use Rattle.meter.proofs.Starts.{fresh-sound}
 use Rattle.aberzhan.specs.declared.Module.{Module}
 use Rattle.aberzhan.specs.declared.Stepped.{Stepped}
-use Rattle.aberzhan.specs.Ports.{ports, aberzhan}
+use Rattle.calls.specs.Ports.{ports, aberzhan}
 use Rattle.aberzhan.specs.Module.{watchOf, freshModule}
-use Rattle.aberzhan.specs.Calls.{stateOf, moduleOf, callBlock, replyOf}
-use Rattle.aberzhan.proofs.Soundness.{SoundModule, sounds, shut-phased, from-start}
-use Rattle.aberzhan.proofs.Contracts.{Allows, methods, start-is, allowed-is}
-use Rattle.aberzhan.proofs.Agreement.{does, eighteen}
+use Rattle.calls.specs.Calls.{stateOf, moduleOf, callBlock, replyOf}
+use Rattle.calls.proofs.Soundness.{SoundModule, sounds, shut-phased, from-start}
+use Rattle.calls.proofs.Contracts.{Allows, methods, start-is, allowed-is}
+use Rattle.calls.proofs.Agreement.{does, eighteen}
 use Rattle.demands.specs.Program.{Program, first, calls, steps, ran, closes}
 use Rattle.demands.specs.Demand3.{ModuleDemand3}
 use Rattle.demands.proofs.Turns.{took-ran}

@@ -10,7 +10,7 @@ use Rattle.packet.specs.Commands.{parameters, selects, targetOf, selecting, not
 use Rattle.packet.specs.Replies.{sending, replyTo, withSum, valuesReply, replyBytes}
 use Rattle.poll.specs.Polls.{replyFrom}
 use Rattle.aberzhan.specs.Polling.{pollReply, pollOf, pollBuffer}
-use Rattle.aberzhan.specs.Turns.{sentBy}
+use Rattle.calls.specs.Turns.{sentBy}
 use Rattle.demands.specs.Evening.{EveningIsSo}
 
 pub evening-is-so : EveningIsSo

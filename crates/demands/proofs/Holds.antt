@@ -14,11 +14,11 @@ use Rattle.meter.specs.Core.{core, lastOf, closedWork}
 use Rattle.meter.specs.Starting.{freshOf}
 use Rattle.aberzhan.specs.declared.Module.{Module}
 use Rattle.aberzhan.specs.declared.Holding.{Holding}
-use Rattle.aberzhan.specs.Ports.{ports, aberzhan}
+use Rattle.calls.specs.Ports.{ports, aberzhan}
 use Rattle.aberzhan.specs.Module.{freshModule}
-use Rattle.aberzhan.specs.Calls.{stateOf, numberOf}
-use Rattle.aberzhan.proofs.Contracts.{Holds}
-use Rattle.aberzhan.proofs.Told.{hold-tells, hold-refused}
+use Rattle.calls.specs.Calls.{stateOf, numberOf}
+use Rattle.calls.proofs.Contracts.{Holds}
+use Rattle.calls.proofs.Told.{hold-tells, hold-refused}
 use Rattle.demands.specs.Program.{first, steps, closes}
 use Rattle.demands.specs.Holds.{lastly, Telling, HoldsTell}
 use Rattle.demands.proofs.Demand3.{OfFresh, of-start, module-demand3}

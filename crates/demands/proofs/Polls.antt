@@ -29,14 +29,14 @@ use Rattle.poll.specs.Polls.{readAt, replyFrom}
 use Rattle.aberzhan.specs.declared.Module.{Module}
 use Rattle.aberzhan.specs.declared.Holding.{Holding}
 use Rattle.aberzhan.specs.declared.Polled.{Polled}
-use Rattle.aberzhan.specs.Ports.{aberzhan}
+use Rattle.calls.specs.Ports.{aberzhan}
 use Rattle.aberzhan.specs.Module.{withHeld, portAt, holdOf, readOf}
 use Rattle.aberzhan.specs.Polling.{heldNow, pollReply, afterReply, pollOf, pollBuffer}
-use Rattle.aberzhan.specs.Calls.{readReply}
-use Rattle.aberzhan.specs.Turns.{readCall}
-use Rattle.aberzhan.specs.Counting.{valuesRead}
-use Rattle.aberzhan.proofs.Contracts.{polled-is, held-by, allowed-is, ran-is}
-use Rattle.aberzhan.proofs.Counting.{poll-counts}
+use Rattle.calls.specs.Calls.{readReply}
+use Rattle.calls.specs.Turns.{readCall}
+use Rattle.calls.specs.Counting.{valuesRead}
+use Rattle.calls.proofs.Contracts.{polled-is, held-by, allowed-is, ran-is}
+use Rattle.calls.proofs.Counting.{poll-counts}
 use Rattle.demands.specs.Polls.{PollsTell, EveryRegister}
 
 -- ---- a poll is its hold and its reads

@@ -10,13 +10,13 @@ use Rattle.steps.specs.Calls.{Reply, refuses, done, returns, Log, noted, Ran, e
 use Rattle.address.specs.declared.ByteAddr.{ByteAddr}
 use Rattle.aberzhan.specs.declared.Module.{Module}
 use Rattle.aberzhan.specs.declared.Polled.{Polled}
-use Rattle.aberzhan.specs.Ports.{aberzhan}
+use Rattle.calls.specs.Ports.{aberzhan}
 use Rattle.aberzhan.specs.Module.{holdOf, readOf}
 use Rattle.aberzhan.specs.Polling.{pollOf}
-use Rattle.aberzhan.specs.Calls.{Call, callHold, callRead, stepOf, returned, program}
-use Rattle.aberzhan.specs.Turns.{Turn, poll, sentBy, readCall, pollCalls, countsAs, callsOf, notedAll}
-use Rattle.aberzhan.proofs.Contracts.{Allows, methods, polled-is, allowed-is}
-use Rattle.aberzhan.proofs.Counting.{poll-counts}
+use Rattle.calls.specs.Calls.{Call, callHold, callRead, stepOf, returned, program}
+use Rattle.calls.specs.Turns.{Turn, poll, sentBy, readCall, pollCalls, countsAs, callsOf, notedAll}
+use Rattle.calls.proofs.Contracts.{Allows, methods, polled-is, allowed-is}
+use Rattle.calls.proofs.Counting.{poll-counts}
 use Rattle.demands.specs.Program as P
 
 -- ---- the contracts allow a hold and a read what their definitions say

@@ -24,9 +24,9 @@ use Rattle.meter.specs.declared.Work.{Work}
 use Rattle.meter.specs.Core.{core, withSums, lastOf, closedWork}
 use Rattle.meter.specs.Starting.{freshOf}
 use Rattle.aberzhan.specs.declared.Module.{Module}
-use Rattle.aberzhan.specs.Ports.{ports, aberzhan}
+use Rattle.calls.specs.Ports.{ports, aberzhan}
 use Rattle.aberzhan.specs.Module.{freshModule}
-use Rattle.aberzhan.specs.Calls.{stateOf}
+use Rattle.calls.specs.Calls.{stateOf}
 use Rattle.demands.specs.Program.{Program, first, settings, steps, ran}
 use Rattle.demands.specs.Intervals.{samplesWithCards, intervalsOf, EachHas, rawBefore, wholes, WholeIntervals}
 use Rattle.demands.proofs.Demand3.{OfFresh, of-start, module-demand3, closedFrom, one-card-each}

@@ -10,8 +10,8 @@ use Rattle.sample.specs.Sample.{voltage}
 use Rattle.alarm.specs.declared.Alarms.{Alarms}
 use Rattle.halfcycle.specs.History.{Came, voltage as comes, reset, voltagesOf, lastSquares, alarmsMeant}
 use Rattle.meter.specs.Core.{core}
-use Rattle.aberzhan.specs.Ports.{ports, aberzhan}
-use Rattle.aberzhan.specs.Calls.{stateOf}
+use Rattle.calls.specs.Ports.{ports, aberzhan}
+use Rattle.calls.specs.Calls.{stateOf}
 use Rattle.demands.specs.Program.{Program, first, limits, steps, ran}
 use Rattle.demands.specs.Intervals.{samplesWithCards, intervalsOf}
 

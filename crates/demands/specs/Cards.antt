@@ -8,7 +8,7 @@ use Rattle.serial.specs.Serials.{noSerial}
 use Rattle.card.specs.declared.Card.{Card}
 use Rattle.meter.specs.Core.{core}
 use Rattle.aberzhan.specs.declared.Cards.{Cards}
-use Rattle.aberzhan.proofs.Contracts.{Shows}
+use Rattle.calls.proofs.Contracts.{Shows}
 use Rattle.demands.specs.Program.{Program, first, ran}
 
 -- the card that waits

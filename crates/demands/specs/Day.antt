@@ -30,10 +30,10 @@ use Rattle.meter.specs.Core.{core}
 use Rattle.aberzhan.specs.declared.Module.{Module}
 use Rattle.desk.specs.Desks.{Edit, openWith, writeField, shutDesk}
 use Rattle.port.specs.Holds.{Value, interval, register}
-use Rattle.aberzhan.specs.Ports.{ports, aberzhan}
+use Rattle.calls.specs.Ports.{ports, aberzhan}
 use Rattle.aberzhan.specs.Module.{startOf}
-use Rattle.aberzhan.specs.Calls.{Call, callOpen, callWrite, callCommit, callDrop, callHold, callRead, callBlock, callReset, stateOf, callOf, program}
-use Rattle.aberzhan.proofs.Contracts.{methods}
+use Rattle.calls.specs.Calls.{Call, callOpen, callWrite, callCommit, callDrop, callHold, callRead, callBlock, callReset, stateOf, callOf, program}
+use Rattle.calls.proofs.Contracts.{methods}
 use Rattle.demands.specs.Intervals.{cutBy}
 use Rattle.demands.specs.EnergyHistory.{plusOver, minusOver}
 use Rattle.demands.specs.Alarms.{cameAs}

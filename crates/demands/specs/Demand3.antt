@@ -14,10 +14,10 @@ use Rattle.meter.specs.Core.{core, samplesOf}
 use Rattle.meter.specs.Blocks.{soundOf}
 use Rattle.meter.specs.Starting.{noCard}
 use Rattle.aberzhan.specs.declared.Module.{Module}
-use Rattle.aberzhan.specs.Ports.{ports, aberzhan}
+use Rattle.calls.specs.Ports.{ports, aberzhan}
 use Rattle.aberzhan.specs.Module.{watchOf}
-use Rattle.aberzhan.specs.Calls.{stateOf, callBlock}
-use Rattle.aberzhan.proofs.Contracts.{Allows, methods}
+use Rattle.calls.specs.Calls.{stateOf, callBlock}
+use Rattle.calls.proofs.Contracts.{Allows, methods}
 use Rattle.demands.specs.Program.{Program, first, calls, steps}
 
 pub record ProgramDemand3 (p : Program) : Type 0 where

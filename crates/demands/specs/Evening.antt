@@ -10,9 +10,9 @@ use Rattle.steps.specs.declared.Answer.the-variants.{Done, Refused}
 use Rattle.aberzhan.specs.declared.Module.{Module}
 use Rattle.aberzhan.specs.declared.Polled.{Polled}
 use Rattle.aberzhan.specs.Module.{withHeld}
-use Rattle.aberzhan.specs.Calls.{callHold, callRead}
+use Rattle.calls.specs.Calls.{callHold, callRead}
 use Rattle.aberzhan.specs.Polling.{pollOf, pollBuffer}
-use Rattle.aberzhan.specs.Turns.{Turn, call, poll, callsOf}
+use Rattle.calls.specs.Turns.{Turn, call, poll, callsOf}
 use Rattle.demands.specs.Day.{panel, byte, evening}
 
 -- the evening's module, but for the hold of port 1: that of interval 1, where WATT_A is 30 and PA_NEG_CNT 0

@@ -7,9 +7,9 @@ use Rattle.steps.specs.declared.Answer.the-variants.{Refused}
 use Rattle.alarm.specs.declared.Alarms.{Alarms}
 use Rattle.interval.specs.declared.Closed.{Closed}
 use Rattle.aberzhan.specs.declared.Holding.{Holding}
-use Rattle.aberzhan.specs.Calls.{numberOf}
-use Rattle.aberzhan.specs.Told.{TellsOf}
-use Rattle.aberzhan.proofs.Contracts.{Holds}
+use Rattle.calls.specs.Calls.{numberOf}
+use Rattle.calls.specs.Told.{TellsOf}
+use Rattle.calls.proofs.Contracts.{Holds}
 use Rattle.demands.specs.Program.{Program, closes}
 use Rattle.demands.specs.Alarms.{alarmsOf}
 

@@ -15,8 +15,8 @@ use Rattle.interval.specs.Whole.{lastRaw, intervalOf}
 use Rattle.interval.specs.Close.{noneClosed}
 use Rattle.meter.specs.Core.{core}
 use Rattle.meter.specs.Starting.{noCard}
-use Rattle.aberzhan.specs.Ports.{ports, aberzhan}
-use Rattle.aberzhan.specs.Calls.{stateOf}
+use Rattle.calls.specs.Ports.{ports, aberzhan}
+use Rattle.calls.specs.Calls.{stateOf}
 use Rattle.demands.specs.Program.{Program, first, settings, steps, ran, closes}
 
 -- ---- which samples make an interval, and which card

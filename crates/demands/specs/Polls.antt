@@ -17,11 +17,11 @@ use Rattle.packet.specs.Replies.{withSum, valuesReply, replyBytes}
 use Rattle.aberzhan.specs.declared.Module.{Module}
 use Rattle.aberzhan.specs.declared.Holding.{Holding}
 use Rattle.aberzhan.specs.declared.Polled.{Polled}
-use Rattle.aberzhan.specs.Ports.{aberzhan}
+use Rattle.calls.specs.Ports.{aberzhan}
 use Rattle.aberzhan.specs.Polling.{pollReply}
-use Rattle.aberzhan.specs.Turns.{poll, sentBy, readCall, countsAs}
-use Rattle.aberzhan.specs.Counting.{valuesRead}
-use Rattle.aberzhan.proofs.Contracts.{Holds, Polls, Allows, methods}
+use Rattle.calls.specs.Turns.{poll, sentBy, readCall, countsAs}
+use Rattle.calls.specs.Counting.{valuesRead}
+use Rattle.calls.proofs.Contracts.{Holds, Polls, Allows, methods}
 
 -- ---- a poll is its hold and its reads
 

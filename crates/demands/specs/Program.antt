@@ -14,10 +14,10 @@ use Rattle.interval.specs.declared.Closed.{Closed}
 use Rattle.aberzhan.specs.declared.Module.{Module}
 use Rattle.aberzhan.specs.declared.Stepped.{Stepped}
 use Rattle.aberzhan.specs.declared.Polled.{Polled}
-use Rattle.aberzhan.specs.Ports.{aberzhan}
-use Rattle.aberzhan.specs.Calls.{Call, stepOf}
-use Rattle.aberzhan.specs.Turns.{Turn, call, poll, countsAs, callsOf, notedAll}
-use Rattle.aberzhan.proofs.Contracts.{Starts, Polls, Allows, methods}
+use Rattle.calls.specs.Ports.{aberzhan}
+use Rattle.calls.specs.Calls.{Call, stepOf}
+use Rattle.calls.specs.Turns.{Turn, call, poll, countsAs, callsOf, notedAll}
+use Rattle.calls.proofs.Contracts.{Starts, Polls, Allows, methods}
 
 -- Turns from a module, and the log of what came of them: of a call the reply that its contract allows. A poll that sends registers is noted as its hold
 -- and its reads, and any other not at all; that its reply has what these return, and that it leaves what they leave, is `PollsTell`.

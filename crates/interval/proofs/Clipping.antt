@@ -7,8 +7,9 @@ use native.Mathlib.Omega.{arith}
 use lib.IntN.{ℤ}
 use lib.ListN.{length}
 use Rattle.card.specs.declared.Card.{Card}
+use Rattle.sample.specs.declared.Inputs.{Inputs}
 use Rattle.sample.specs.Fields.{voffs, ioffs, vgain, igain}
-use Rattle.sample.specs.Sample.{wasClipped, Beyond, voltageClipped, currentClipped}
+use Rattle.sample.specs.Sample.{wasClipped, Beyond, voltageClipped, inputClipped}
 use Rattle.sample.specs.Sums.{Sample, oneIf}
 use Rattle.sample.proofs.Rooms.{one-most}
 use Rattle.sample.proofs.Clipped.{clipped-beyond, unclipped-within}
@@ -18,7 +19,7 @@ use Rattle.interval.specs.Whole.{total, clipsOf, sumsOf, intervalOf}
 use Rattle.interval.specs.Close.{closedOf}
 use Rattle.interval.specs.Clipping.{HowMany, no-more, this, not-this, ClippedBy}
 
--- f is a sample's raw voltage or current
+-- f is a sample's raw voltage, or one of its raw inputs
 module _ (f : Sample → ℤ) (offset gain : ℤ) where
   abbrev So : Sample → Type 0
   So x = Beyond (f x) offset gain
@@ -43,14 +44,17 @@ module _ (f : Sample → ℤ) (offset gain : ℤ) where
   at-most [] = omega arith
   at-most (x ∷ xs) = omega (arith, one-most (test x), at-most xs)
 
-pub clipped-by : (first : Bool) (t : Settings) (c : Card) (before : ℤ) (xs : List Sample) (old : Closed) → ClippedBy c xs (intervalOf first t c before xs old)
-unfolding intervalOf closedOf sumsOf clipsOf voltageClipped currentClipped
+pub clipped-by : (first : Bool) (t : Settings) (c : Card) (before : Inputs) (xs : List Sample) (old : Closed) → ClippedBy c xs (intervalOf first t c before xs old)
+unfolding intervalOf closedOf sumsOf clipsOf voltageClipped inputClipped
 clipped-by first t c before xs old =
     let v : Sample → ℤ = λ x. x .0 in
-    let i : Sample → ℤ = λ x. x .1 in
+    let s1 : Sample → ℤ = λ x. x .1 .s1 in
+    let s3 : Sample → ℤ = λ x. x .1 .s3 in
     record {
       voltages = how-many v (voffs c) (vgain c) xs;
-      currents = how-many i (ioffs c) (igain c) xs;
+      first-inputs = how-many s1 (ioffs c) (igain c) xs;
+      third-inputs = how-many s3 (ioffs c) (igain c) xs;
       v-most = at-most v (voffs c) (vgain c) xs;
-      i-most = at-most i (ioffs c) (igain c) xs;
+      s1-most = at-most s1 (ioffs c) (igain c) xs;
+      s3-most = at-most s3 (ioffs c) (igain c) xs;
     }

@@ -10,6 +10,7 @@ use lib.ListN.{getD, length, length-append}
 use lib.Signed.{ltZ, _≤ℤ_, ≤ℤ-refl}
 use Rattle.number.proofs.Signed.{signs}
 use Rattle.card.specs.declared.Card.{Card}
+use Rattle.sample.specs.declared.Inputs.{Inputs}
 use Rattle.sample.specs.declared.Sums.{Sums}
 use Rattle.sample.specs.Sums.{Sample}
 use Rattle.interval.specs.declared.Settings.{Settings}
@@ -21,10 +22,10 @@ use Rattle.interval.specs.History.{ClosedNext, ClosedInTurn, AllOf, OneO
 use Rattle.tracking.proofs.Slots.{slot-at}
 
 -- an interval that is worked from its samples closes next
-pub whole-next : (first : Bool) (t : Settings) (c : Card) (before : ℤ) (xs : List Sample) (old : Closed) →
+pub whole-next : (first : Bool) (t : Settings) (c : Card) (before : Inputs) (xs : List Sample) (old : Closed) →
     ClosedNext t first old (intervalOf first t c before xs old)
 unfolding intervalOf
-whole-next first t c before xs old = record { card = c; sums = sumsOf c before xs; samples = length xs; is = refl }
+whole-next first t c before xs old = record { card = c; sums = sumsOf c (t .config) before xs; samples = length xs; is = refl }
 
 -- ---- one interval more behind a list
 module _ (P : Closed → Type 0) where

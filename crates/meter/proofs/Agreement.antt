@@ -24,11 +24,11 @@ use Rattle.meter.proofs.Stretches.{fed-is, fed-append, fed-none}
 use Rattle.meter.proofs.Keeping.{stretch-sound}
 
 -- ---- so the code's block is the core's
-pub block-passes : (m : Kept) (q : Watching) (v i : List ℤ) → Sound m → watchSound q ≡ true →
-    blockDone m q v i ≡ passes core (samplesOf v i) (latest core (meterOf m)) (meteringOf m q)
+pub block-passes : (m : Kept) (q : Watching) (v s1 s3 : List ℤ) → Sound m → watchSound q ≡ true →
+    blockDone m q v s1 s3 ≡ passes core (samplesOf v s1 s3) (latest core (meterOf m)) (meteringOf m q)
 unfolding blockDone nextCard
-block-passes m q v i h w =
-    ap₂ (λ (s : Bool) (t : Bool). passes core (samplesOf v i) (cond (s && t) (latest core (meterOf m)) none) (meteringOf m q)) (sound-yes m h) w
+block-passes m q v s1 s3 h w =
+    ap₂ (λ (s : Bool) (t : Bool). passes core (samplesOf v s1 s3) (cond (s && t) (latest core (meterOf m)) none) (meteringOf m q)) (sound-yes m h) w
 
 -- for a sound state there is a card exactly when one is in force or waits
 pub carded-is : (m : Kept) → Sound m → carded m ≡ (m .waits || m .forced)

@@ -55,6 +55,6 @@ unfolding stretchOf
 stretch-sound m xs h l =
     let q = begunOf m in
     let b = begun-is m h in
-    subst (λ (w : Work). Sound (endOf (m .taken + length xs) (withSums w (addedAll (q .force) (w .sums) xs)) q)) (sym (b .work))
-    (end-sound q (withSums (m .work) (addedAll (q .force) (m .work .sums) xs)) (m .taken + length xs) (omega (arith, h .taken-most)) (h .n-most) l
-    (all-room (q .force) (b .force) xs (m .work .sums) (m .taken) (h .room)) (b .waiting) (b .force))
+    subst (λ (w : Work). Sound (endOf (m .taken + length xs) (withSums w (addedAll (q .force) (w .settings .config) (w .sums) xs)) q)) (sym (b .work))
+    (end-sound q (withSums (m .work) (addedAll (q .force) (m .work .settings .config) (m .work .sums) xs)) (m .taken + length xs) (omega (arith, h .taken-most)) (h .n-most) l
+    (all-room (q .force) (m .work .settings .config) xs (m .work .sums) (m .taken) (h .room)) (b .waiting) (b .force))

@@ -28,17 +28,17 @@ joined-is true n w m = refl
 joined-is false n w m = refl
 
 joins-run : (xs : List Sample) (x : Sample) (n : ℕ) (w : Work) (m : Meter core) → suc n + length xs ≤ w .settings .n →
-    keptOf (samples core xs (joins core n w m x .0) .0) ≡ endOf (suc n + length xs) (withSums w (addedAll (m .force) (w .sums) (x ∷ xs))) (keptOf m)
+    keptOf (samples core xs (joins core n w m x .0) .0) ≡ endOf (suc n + length xs) (withSums w (addedAll (m .force) (w .settings .config) (w .sums) (x ∷ xs))) (keptOf m)
 unfolding endOf addedAll
 joins-run [] x n w m h =
-    joined-is (eqb (suc n) (w .settings .n)) (suc n) (withSums w (added (m .force) (w .sums) (x .0) (x .1))) m
-    ∙ ap (λ (k : ℕ). endOf k (withSums w (added (m .force) (w .sums) (x .0) (x .1))) (keptOf m)) (sym (add-zero (suc n)))
+    joined-is (eqb (suc n) (w .settings .n)) (suc n) (withSums w (added (m .force) (w .settings .config) (w .sums) x)) m
+    ∙ ap (λ (k : ℕ). endOf k (withSums w (added (m .force) (w .settings .config) (w .sums) x)) (keptOf m)) (sym (add-zero (suc n)))
 joins-run (y ∷ ys) x n w m h =
-    let w′ = withSums w (added (m .force) (w .sums) (x .0) (x .1)) in
+    let w′ = withSums w (added (m .force) (w .settings .config) (w .sums) x) in
     let more : suc (suc n) + length ys ≡ suc n + suc (length ys) = omega arith in
     ap (λ (b : Bool). keptOf (samples core (y ∷ ys) (joined-by b (suc n) w′ m .0) .0)) (ne-eqb (suc n) (w .settings .n) (omega arith))
     ∙ joins-run ys y (suc n) w′ (workedOn core (suc n) w′ m) (omega arith)
-    ∙ ap (λ (k : ℕ). endOf k (withSums w (addedAll (m .force) (added (m .force) (w .sums) (x .0) (x .1)) (y ∷ ys))) (keptOf m)) more
+    ∙ ap (λ (k : ℕ). endOf k (withSums w (addedAll (m .force) (w .settings .config) (added (m .force) (w .settings .config) (w .sums) x) (y ∷ ys))) (keptOf m)) more
 
 begun-work : (b : Bool) (m : Meter core) → cond b (waitOver core m) m .work ≡ m .work
 begun-work true m = refl
@@ -46,7 +46,7 @@ begun-work false m = refl
 
 module _ (m : Kept) (x : Sample) (xs : List Sample) (h : m .taken + suc (length xs) ≤ m .work .settings .n) where
   abbrev from : Kept → ℕ → Kept
-  from q n = endOf (n + suc (length xs)) (withSums (q .work) (addedAll (q .force) (q .work .sums) (x ∷ xs))) q
+  from q n = endOf (n + suc (length xs)) (withSums (q .work) (addedAll (q .force) (q .work .settings .config) (q .work .sums) (x ∷ xs))) q
 
   fed-by : (n : ℕ) → m .taken ≡ n → keptOf (samples core xs (sample core n (meterOf m) x .0) .0) ≡ from (begunOf m) (m .taken)
   unfolding begunOf
@@ -55,12 +55,12 @@ module _ (m : Kept) (x : Sample) (xs : List Sample) (h : m .taken + suc (length 
       let w : q .work ≡ m .work = begun-work (m .waits) (meterOf m) in
       let one : suc 0 + length xs ≡ m .taken + suc (length xs) = omega arith in
       joins-run xs x 0 (q .work) q (rw w (omega arith))
-      ∙ ap (λ (k : ℕ). endOf k (withSums (q .work) (addedAll (q .force) (q .work .sums) (x ∷ xs))) (keptOf q)) one
+      ∙ ap (λ (k : ℕ). endOf k (withSums (q .work) (addedAll (q .force) (q .work .settings .config) (q .work .sums) (x ∷ xs))) (keptOf q)) one
       ∙ ap (λ (b : Bool). from (cond b (keptOf q) m) (m .taken)) (sym (eq-eqb (m .taken) 0 e))
   fed-by (suc n) e =
       let one : suc (suc n) + length xs ≡ m .taken + suc (length xs) = omega arith in
       joins-run xs x (suc n) (m .work) (meterOf m) (omega arith)
-      ∙ ap (λ (k : ℕ). endOf k (withSums (m .work) (addedAll (m .force) (m .work .sums) (x ∷ xs))) m) one
+      ∙ ap (λ (k : ℕ). endOf k (withSums (m .work) (addedAll (m .force) (m .work .settings .config) (m .work .sums) (x ∷ xs))) m) one
       ∙ ap (λ (b : Bool). from (cond b (keptOf (begun core (meterOf m))) m) (m .taken)) (sym (ne-eqb (m .taken) 0 (omega arith)))
 
   fed-one : fedOf m (x ∷ xs) ≡ stretchOf m (x ∷ xs)

@@ -22,11 +22,12 @@ use Rattle.meter.specs.Inside.{cardBehind, turnOf}
 abbrev pub voltages : List Sample → List ℤ
 voltages xs = map (λ (x : Sample). x .0) xs
 
-pub voltages-in : (v i : List ℤ) → length v ≡ length i → voltages (samplesIn v i) ≡ v
+pub voltages-in : (v s1 s3 : List ℤ) → length v ≡ length s1 → length v ≡ length s3 → voltages (samplesIn v s1 s3) ≡ v
 unfolding samplesIn
-voltages-in [] i e = refl
-voltages-in (x ∷ v) [] e = absurd (omega (arith, e))
-voltages-in (x ∷ v) (y ∷ i) e = ap (λ (l : List ℤ). x ∷ l) (voltages-in v i (omega (arith, e)))
+voltages-in [] s1 s3 e f = refl
+voltages-in (x ∷ v) [] s3 e f = absurd (omega (arith, e))
+voltages-in (x ∷ v) (y ∷ s1) [] e f = absurd (omega (arith, f))
+voltages-in (x ∷ v) (y ∷ s1) (z ∷ s3) e f = ap (λ (l : List ℤ). x ∷ l) (voltages-in v s1 s3 (omega (arith, e)) (omega (arith, f)))
 
 -- ---- what a sample leaves of the cards, and how many the interval has then
 

@@ -4,7 +4,7 @@ use mathlib.Core.Path.{_≡_, refl, sym, ap, ap₂, _∙_}
 use mathlib.Core.Bool.{Bool, true, false, cond, _&&_, _||_, true≢false}
 use mathlib.Core.List.{List}
 use mathlib.Core.Option.{Option, none, some}
-use lib.Dec.{eqb, leb}
+use lib.Dec.{leb}
 use lib.IntN.{ℤ}
 use lib.ListN.{length}
 use Rattle.steps.specs.Answers.{OrRefusal, refused, accepted}
@@ -12,7 +12,7 @@ use Rattle.steps.specs.Gauge.{latest, samples, watches, passes}
 use Rattle.card.specs.declared.Card.{Card}
 use Rattle.meter.specs.declared.Meter.{Meter as Kept}
 use Rattle.steps.specs.declared.Answer.the-variants.{Done, Refused}
-use Rattle.sample.specs.Sums.{Sample, samplesIn}
+use Rattle.sample.specs.Sums.{Sample, samplesIn, sameLength}
 use Rattle.sample.specs.Sample.{every24}
 use Rattle.sample.proofs.Tests.{both-of}
 use Rattle.alarm.specs.Alarms.{Watching}
@@ -57,20 +57,20 @@ watch-none m q e = ap (λ (t : Bool). cond (soundOf m && t) (latest core (meterO
     by true = refl
     by false = refl
 
-module _ (m : Kept) (q : Watching) (v i : List ℤ) where
+module _ (m : Kept) (q : Watching) (v s1 s3 : List ℤ) where
   -- ---- samples that are well formed
 
-  pub pass-18 : nextCard m q ≡ none → (record { answer = Refused 18; after = m; watch = q .watch } ≡ passedOf m q v i) × (q .volts ≡ voltsPassed m q v i)
+  pub pass-18 : nextCard m q ≡ none → (record { answer = Refused 18; after = m; watch = q .watch } ≡ passedOf m q v s1 s3) × (q .volts ≡ voltsPassed m q v s1 s3)
   unfolding passedOf voltsPassed
   pass-18 e =
-      let by : passes core (accepted (samplesIn v i)) (nextCard m q) (meteringOf m q) ≡ refused 18 = ap (λ (o : Option Card). passes core (accepted (samplesIn v i)) o (meteringOf m q)) e in
+      let by : passes core (accepted (samplesIn v s1 s3)) (nextCard m q) (meteringOf m q) ≡ refused 18 = ap (λ (o : Option Card). passes core (accepted (samplesIn v s1 s3)) o (meteringOf m q)) e in
       (sym (ap (answered m q) by), sym (ap (voltsIn q) by))
 
-  pub pass-done : (z : Watching) → carded m ≡ true → watchSound q ≡ true → z ≡ watches core (samplesIn v i) (meterOf m) q →
-      (record { answer = Done; after = fedOf m (samplesIn v i); watch = z .watch } ≡ passedOf m q v i) × (z .volts ≡ voltsPassed m q v i)
+  pub pass-done : (z : Watching) → carded m ≡ true → watchSound q ≡ true → z ≡ watches core (samplesIn v s1 s3) (meterOf m) q →
+      (record { answer = Done; after = fedOf m (samplesIn v s1 s3); watch = z .watch } ≡ passedOf m q v s1 s3) × (z .volts ≡ voltsPassed m q v s1 s3)
   unfolding passedOf voltsPassed fedOf
   pass-done z c w e =
-      let xs = samplesIn v i in
+      let xs = samplesIn v s1 s3 in
       let f = card-some m q c w in
       let by = ap (λ (o : Option Card). passes core (accepted xs) o (meteringOf m q)) (f .1) in (
         ap (λ (z : Watching). record { answer = Done; after = keptOf (samples core xs (meterOf m) .0); watch = z .watch }) e ∙ sym (ap (answered m q) by),
@@ -79,50 +79,42 @@ module _ (m : Kept) (q : Watching) (v i : List ℤ) where
 
   -- ---- the tests before it
 
-  unequal : eqb (length v) (length i) ≡ false → samplesOf v i ≡ refused 5
+  abbrev inRange : Bool
+  inRange = every24 v && every24 s1 && every24 s3
+
+  unequal : sameLength v s1 s3 ≡ false → samplesOf v s1 s3 ≡ refused 5
   unfolding samplesOf
   unequal e = rw e
 
-  too-long : eqb (length v) (length i) ≡ true → leb (length v) 4096 ≡ false → samplesOf v i ≡ refused 5
+  too-long : sameLength v s1 s3 ≡ true → leb (length v) 4096 ≡ false → samplesOf v s1 s3 ≡ refused 5
   unfolding samplesOf
   too-long e l = rw (e, l)
 
-  bad-v : eqb (length v) (length i) ≡ true → leb (length v) 4096 ≡ true → every24 v ≡ false → samplesOf v i ≡ refused 6
+  by-range : (b : Bool) → sameLength v s1 s3 ≡ true → leb (length v) 4096 ≡ true → inRange ≡ b → samplesOf v s1 s3 ≡ cond b (accepted (samplesIn v s1 s3)) (refused 6)
   unfolding samplesOf
-  bad-v e l a = rw (e, l, a)
-
-  bad-i : eqb (length v) (length i) ≡ true → leb (length v) 4096 ≡ true → every24 v ≡ true → every24 i ≡ false → samplesOf v i ≡ refused 6
-  unfolding samplesOf
-  bad-i e l a b = rw (e, l, a, b)
-
-  good : eqb (length v) (length i) ≡ true → leb (length v) 4096 ≡ true → every24 v ≡ true → every24 i ≡ true → samplesOf v i ≡ accepted (samplesIn v i)
-  unfolding samplesOf
-  good e l a b = rw (e, l, a, b)
+  by-range b e l r = rw (e, l, r)
 
   abbrev Refuses : ℕ → Type 0
-  Refuses n = (record { answer = Refused n; after = m; watch = q .watch } ≡ blockOf m q v i) × (q .volts ≡ voltsOf m q v i)
+  Refuses n = (record { answer = Refused n; after = m; watch = q .watch } ≡ blockOf m q v s1 s3) × (q .volts ≡ voltsOf m q v s1 s3)
 
-  refusal : (n : ℕ) → samplesOf v i ≡ refused n → Refuses n
+  refusal : (n : ℕ) → samplesOf v s1 s3 ≡ refused n → Refuses n
   unfolding blockOf voltsOf blockDone
   refusal n e =
       let by = ap (λ (r : OrRefusal (List Sample)). passes core r (nextCard m q) (meteringOf m q)) e in
       (sym (ap (answered m q) by), sym (ap (voltsIn q) by))
 
-  pub block-5 : eqb (length v) (length i) ≡ false → Refuses 5
+  pub block-5 : sameLength v s1 s3 ≡ false → Refuses 5
   block-5 e = refusal 5 (unequal e)
 
-  pub block-5-long : eqb (length v) (length i) ≡ true → leb (length v) 4096 ≡ false → Refuses 5
+  pub block-5-long : sameLength v s1 s3 ≡ true → leb (length v) 4096 ≡ false → Refuses 5
   block-5-long e l = refusal 5 (too-long e l)
 
-  pub block-6-v : eqb (length v) (length i) ≡ true → leb (length v) 4096 ≡ true → every24 v ≡ false → Refuses 6
-  block-6-v e l a = refusal 6 (bad-v e l a)
+  pub block-6 : sameLength v s1 s3 ≡ true → leb (length v) 4096 ≡ true → inRange ≡ false → Refuses 6
+  block-6 e l r = refusal 6 (by-range false e l r)
 
-  pub block-6-i : eqb (length v) (length i) ≡ true → leb (length v) 4096 ≡ true → every24 v ≡ true → every24 i ≡ false → Refuses 6
-  block-6-i e l a b = refusal 6 (bad-i e l a b)
-
-  pub block-pass : eqb (length v) (length i) ≡ true → leb (length v) 4096 ≡ true → every24 v ≡ true → every24 i ≡ true →
-      (passedOf m q v i ≡ blockOf m q v i) × (voltsPassed m q v i ≡ voltsOf m q v i)
+  pub block-pass : sameLength v s1 s3 ≡ true → leb (length v) 4096 ≡ true → inRange ≡ true →
+      (passedOf m q v s1 s3 ≡ blockOf m q v s1 s3) × (voltsPassed m q v s1 s3 ≡ voltsOf m q v s1 s3)
   unfolding blockOf voltsOf blockDone passedOf voltsPassed
-  block-pass e l a b =
-      let by = sym (ap (λ (r : OrRefusal (List Sample)). passes core r (nextCard m q) (meteringOf m q)) (good e l a b)) in
+  block-pass e l r =
+      let by = sym (ap (λ (r : OrRefusal (List Sample)). passes core r (nextCard m q) (meteringOf m q)) (by-range true e l r)) in
       (ap (answered m q) by, ap (voltsIn q) by)

@@ -17,7 +17,7 @@ use Rattle.meter.specs.declared.Taken.{Taken}
 use Rattle.meter.specs.Core.{core, samplesOf, meterOf, keptOf, meteringOf}
 
 -- no sum of the running interval can overflow: it is not full, its sums can be those of as many samples as it has, and the PHASE of the card in
--- force and of the one that waits is in its range. Whatever a start and steps make is so (`proofs/Soundness.antt` of crate `aberzhan`), and
+-- force and of the one that waits is in its range. Whatever a start and steps make is so (`proofs/Soundness.antt` of crate `calls`), and
 -- other values of the struct are too, one with a gain of 0 for instance.
 unfoldable pub soundOf : Kept → Bool
 soundOf m =
@@ -37,21 +37,21 @@ unfoldable pub waitOf : Card → Kept → Kept
 waitOf c m = keptOf (waitsFor core c (meterOf m))
 
 -- what a block comes to. 18: no card in force and none waits
-unfoldable pub blockDone : Kept → Watching → List ℤ → List ℤ → OrRefusal (Metering core × List Closed)
-blockDone m q v i = passes core (samplesOf v i) (nextCard m q) (meteringOf m q)
+unfoldable pub blockDone : Kept → Watching → List ℤ → List ℤ → List ℤ → OrRefusal (Metering core × List Closed)
+blockDone m q v s1 s3 = passes core (samplesOf v s1 s3) (nextCard m q) (meteringOf m q)
 
 -- document 01's number for each answer, and meter and watch afterwards: as they came, if refused
 abbrev pub answered : Kept → Watching → OrRefusal (Metering core × List Closed) → Taken
 answered m q (refused n) = record { answer = Refused n; after = m; watch = q .watch }
 answered m q (accepted r) = record { answer = Done; after = keptOf (r .0 .intervals); watch = r .0 .watch .watch }
 
-unfoldable pub blockOf : Kept → Watching → List ℤ → List ℤ → Taken
-blockOf m q v i = answered m q (blockDone m q v i)
+unfoldable pub blockOf : Kept → Watching → List ℤ → List ℤ → List ℤ → Taken
+blockOf m q v s1 s3 = answered m q (blockDone m q v s1 s3)
 
 -- and the voltages afterwards
 abbrev pub voltsIn : Watching → OrRefusal (Metering core × List Closed) → List ℤ
 voltsIn q (refused n) = q .volts
 voltsIn q (accepted r) = r .0 .watch .volts
 
-unfoldable pub voltsOf : Kept → Watching → List ℤ → List ℤ → List ℤ
-voltsOf m q v i = voltsIn q (blockDone m q v i)
+unfoldable pub voltsOf : Kept → Watching → List ℤ → List ℤ → List ℤ → List ℤ
+voltsOf m q v s1 s3 = voltsIn q (blockDone m q v s1 s3)

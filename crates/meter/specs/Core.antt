@@ -10,17 +10,17 @@ use Rattle.card.specs.declared.Card.{Card}
 use Rattle.sample.specs.declared.Sums.{Sums}
 use Rattle.interval.specs.declared.Closed.{Closed}
 use Rattle.sample.specs.Sample.{every24}
-use Rattle.sample.specs.Sums.{Sample, samplesIn, added, emptied}
+use Rattle.sample.specs.Sums.{Sample, samplesIn, sameLength, added, emptied}
 use Rattle.interval.specs.Close.{closedOf}
 use Rattle.alarm.specs.Alarms.{Watching, both, seenWith, clearing}
 use Rattle.meter.specs.declared.Work.{Work}
 use Rattle.meter.specs.declared.Meter.{Meter as Kept}
 
 -- 5: slices differ in length, or over 4,096; 6: a sample outside the 24-bit range
-unfoldable pub samplesOf : List ℤ → List ℤ → OrRefusal (List Sample)
-samplesOf v i =
-    cond (eqb (length v) (length i) && leb (length v) 4096)
-    (cond (every24 v && every24 i) (accepted (samplesIn v i)) (refused 6))
+unfoldable pub samplesOf : List ℤ → List ℤ → List ℤ → OrRefusal (List Sample)
+samplesOf v s1 s3 =
+    cond (sameLength v s1 s3 && leb (length v) 4096)
+    (cond (every24 v && every24 s1 && every24 s3) (accepted (samplesIn v s1 s3)) (refused 6))
     (refused 5)
 
 abbrev pub withSums : Work → Sums → Work
@@ -41,15 +41,15 @@ resetWatch q mask = andThen (clearing (q .watch) mask) (λ a. both a (q .volts))
 abbrev pub core : Gauge
 core = record {
   Card = Card;
-  Block = List ℤ × List ℤ;
+  Block = List ℤ × List ℤ × List ℤ;
   Sample = Sample;
   Work = Work;
   Closed = Closed;
   Watch = Watching;
   Mask = ℤ;
-  samplesOf = λ b. samplesOf (b .0) (b .1);
+  samplesOf = λ b. samplesOf (b .0) (b .1) (b .2);
   startInterval = λ c w. w;
-  addSample = λ c w x. withSums w (added c (w .sums) (x .0) (x .1));
+  addSample = λ c w x. withSums w (added c (w .settings .config) (w .sums) x);
   breaks = λ c n w x. false;
   full = λ c n w. eqb n (w .settings .n);
   closeInterval = λ c w. (closedWork c w, lastOf c w);

@@ -34,7 +34,7 @@ endOf n w m =
 
 -- samples of one interval, at most to its end
 unfoldable pub stretchOf : Kept → List Sample → Kept
-stretchOf m xs = let q = begunOf m in endOf (m .taken + length xs) (withSums (q .work) (addedAll (q .force) (q .work .sums) xs)) q
+stretchOf m xs = let q = begunOf m in endOf (m .taken + length xs) (withSums (q .work) (addedAll (q .force) (q .work .settings .config) (q .work .sums) xs)) q
 
 -- ---- the watch over a block: a card that waits comes into force once in it, at the next interval's first sample
 
@@ -47,8 +47,8 @@ unfoldable pub turnOf : Kept → ℕ
 turnOf m = cond (eqb (m .taken) 0) 0 (m .work .settings .n - m .taken)
 
 -- a block whose samples are well formed
-unfoldable pub passedOf : Kept → Watching → List ℤ → List ℤ → Taken
-passedOf m q v i = answered m q (passes core (accepted (samplesIn v i)) (nextCard m q) (meteringOf m q))
+unfoldable pub passedOf : Kept → Watching → List ℤ → List ℤ → List ℤ → Taken
+passedOf m q v s1 s3 = answered m q (passes core (accepted (samplesIn v s1 s3)) (nextCard m q) (meteringOf m q))
 
-unfoldable pub voltsPassed : Kept → Watching → List ℤ → List ℤ → List ℤ
-voltsPassed m q v i = voltsIn q (passes core (accepted (samplesIn v i)) (nextCard m q) (meteringOf m q))
+unfoldable pub voltsPassed : Kept → Watching → List ℤ → List ℤ → List ℤ → List ℤ
+voltsPassed m q v s1 s3 = voltsIn q (passes core (accepted (samplesIn v s1 s3)) (nextCard m q) (meteringOf m q))

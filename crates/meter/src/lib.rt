@@ -1,9 +1,10 @@
 // Samples into intervals: the start, the card that comes into force, and a block.
 ghost use mathlib.Core.Path.{_≡_};
-ghost use mathlib.Core.Bool.{true};
+ghost use mathlib.Core.Bool.{true, _&&_};
 ghost use Prim.Native.Nat.{_+_, _-_, _≤_, _<_, min};
 ghost use lib.ListN.{length};
-ghost use Rattle.sample.specs.Sums.{samplesIn};
+ghost use Rattle.sample.specs.Sample.{every24};
+ghost use Rattle.sample.specs.Sums.{samplesIn, sameLength};
 ghost use Rattle.meter.specs.Core.{withSums, closedWork};
 ghost use Rattle.alarm.specs.Alarms.{both};
 ghost use Rattle.meter.specs.Blocks.{soundOf, carded, waitOf, blockOf, voltsOf};
@@ -37,7 +38,7 @@ pub struct Meter {
     pub work: Work,
 }
 
-// What a start makes of N, B and the six words to track; at its lowest where one of them is out of range.
+// What a start makes of N, B, the six words to track and the configuration; at its lowest where one of them is out of range.
 pub struct Started {
     pub ok: bool,
     pub meter: Meter,
@@ -104,13 +105,21 @@ impl Meter {
     }
 
     // Samples of one interval.
-    fn stretch(self, v: &[i32], i: &[i32]) -> Meter
-        requires { ⌜ (soundOf self ≡ true) × (length (now v) ≡ length (now i)) ⌝ }
+    fn stretch(self, v: &[i32], s1: &[i32], s3: &[i32]) -> Meter
+        requires { ⌜ (soundOf self ≡ true) × (sameLength (now v) (now s1) (now s3) ≡ true) ⌝ }
         requires { ⌜ self .taken + length (now v) ≤ self .work .settings .n ⌝ }
-        ensures { λ r. ⌜ r ≡ stretchOf self (samplesIn (now (v .entry)) (now (i .entry))) ⌝ }
+        ensures { λ r. ⌜ r ≡ stretchOf self (samplesIn (now (v .entry)) (now (s1 .entry)) (now (s3 .entry))) ⌝ }
     {
         let m = self.begun();
-        let s = summing::with_samples(m.work.sums, self.taken, m.force, v, i);
+        let s = summing::with_samples(
+            m.work.sums,
+            self.taken,
+            m.force,
+            m.work.settings.config,
+            v,
+            s1,
+            s3,
+        );
         let w = m.work.with_sums(s);
         m.ended(self.taken + v.len() as u32, w)
     }
@@ -124,15 +133,15 @@ impl Meter {
         if end - at < room { end } else { at + room }
     }
 
-    // The samples of two slices, interval by interval.
-    fn feed(mut self, v: &[i32], i: &[i32]) -> Meter
-        requires { ⌜ (soundOf self ≡ true) × (length (now v) ≡ length (now i)) ⌝ }
-        ensures { λ r. ⌜ r ≡ fedOf self (samplesIn (now (v .entry)) (now (i .entry))) ⌝ }
+    // The samples of three slices, interval by interval.
+    fn feed(mut self, v: &[i32], s1: &[i32], s3: &[i32]) -> Meter
+        requires { ⌜ (soundOf self ≡ true) × (sameLength (now v) (now s1) (now s3) ≡ true) ⌝ }
+        ensures { λ r. ⌜ r ≡ fedOf self (samplesIn (now (v .entry)) (now (s1 .entry)) (now (s3 .entry))) ⌝ }
     {
         let mut at: usize = 0;
         while at < v.len() {
             let to = self.reach(at, v.len());
-            self = self.stretch(&v[at..to], &i[at..to]);
+            self = self.stretch(&v[at..to], &s1[at..to], &s3[at..to]);
             at = to;
         }
         self
@@ -186,10 +195,10 @@ impl Meter {
     }
 
     // The samples pass the watch, and are fed: 18. The watch is told once where the card changes, so that its voltages are not copied.
-    fn pass(mut self, a: Watch, volts: &mut [i32; 512], v: &[i32], i: &[i32]) -> Taken
-        requires { ⌜ length (now v) ≡ length (now i) ⌝ }
-        ensures { λ r. ⌜ r ≡ passedOf self (both a (now (volts .entry))) (now (v .entry)) (now (i .entry)) ⌝ }
-        ensures { λ _. ⌜ now (volts .exit) ≡ voltsPassed self (both a (now (volts .entry))) (now (v .entry)) (now (i .entry)) ⌝ }
+    fn pass(mut self, a: Watch, volts: &mut [i32; 512], v: &[i32], s1: &[i32], s3: &[i32]) -> Taken
+        requires { ⌜ sameLength (now v) (now s1) (now s3) ≡ true ⌝ }
+        ensures { λ r. ⌜ r ≡ passedOf self (both a (now (volts .entry))) (now (v .entry)) (now (s1 .entry)) (now (s3 .entry)) ⌝ }
+        ensures { λ _. ⌜ now (volts .exit) ≡ voltsPassed self (both a (now (volts .entry))) (now (v .entry)) (now (s1 .entry)) (now (s3 .entry)) ⌝ }
     {
         if self.has_card() {
             let next = self.card_behind();
@@ -197,7 +206,7 @@ impl Meter {
             let p = halfcycle::pass(a, volts, self.force, next, turn, v);
             let watch = p.watch;
             if p.ok {
-                self = self.feed(v, i);
+                self = self.feed(v, s1, s3);
                 return Taken {
                     answer: Answer::Done,
                     after: self,
@@ -212,18 +221,16 @@ impl Meter {
         }
     }
 
-    // A block of samples: 5, 6, 18. volts has the last voltages of the watch.
-    pub fn block(self, a: Watch, volts: &mut [i32; 512], v: &[i32], i: &[i32]) -> Taken
-        ensures { λ r. ⌜ r ≡ blockOf self (both a (now (volts .entry))) (now (v .entry)) (now (i .entry)) ⌝ }
-        ensures { λ _. ⌜ now (volts .exit) ≡ voltsOf self (both a (now (volts .entry))) (now (v .entry)) (now (i .entry)) ⌝ }
+    // A block of samples, voltage and both inputs: 5, 6, 18. volts has the last voltages of the watch.
+    pub fn block(self, a: Watch, volts: &mut [i32; 512], v: &[i32], s1: &[i32], s3: &[i32]) -> Taken
+        ensures { λ r. ⌜ r ≡ blockOf self (both a (now (volts .entry))) (now (v .entry)) (now (s1 .entry)) (now (s3 .entry)) ⌝ }
+        ensures { λ _. ⌜ now (volts .exit) ≡ voltsOf self (both a (now (volts .entry))) (now (v .entry)) (now (s1 .entry)) (now (s3 .entry)) ⌝ }
     {
         let n = v.len();
-        if n == i.len() {
+        if (n == s1.len()) & (n == s3.len()) {
             if n <= 4096 {
-                if sample::all_in_range(v) {
-                    if sample::all_in_range(i) {
-                        return self.pass(a, volts, v, i);
-                    }
+                if all_three(v, s1, s3) {
+                    return self.pass(a, volts, v, s1, s3);
                 }
                 return Taken {
                     answer: Answer::Refused(6),
@@ -240,9 +247,19 @@ impl Meter {
     }
 }
 
+// Whether every sample of three slices is in the 24-bit range.
+fn all_three(v: &[i32], s1: &[i32], s3: &[i32]) -> bool
+    ensures { λ r. ⌜ r ≡ every24 (now (v .entry)) && every24 (now (s1 .entry)) && every24 (now (s3 .entry)) ⌝ }
+{
+    let a = sample::all_in_range(v);
+    let b = sample::all_in_range(s1);
+    let c = sample::all_in_range(s3);
+    a & b & c
+}
+
 // No card, no interval, counts and remainders 0.
-fn fresh(n: u32, b: u64, track: [WordAddr; 6]) -> Meter
-    ensures { λ r. ⌜ r ≡ freshOf n b track ⌝ }
+fn fresh(n: u32, b: u64, track: [WordAddr; 6], config: u8) -> Meter
+    ensures { λ r. ⌜ r ≡ freshOf n b track config ⌝ }
 {
     let none = Serial::none();
     let c = Card {
@@ -256,7 +273,12 @@ fn fresh(n: u32, b: u64, track: [WordAddr; 6]) -> Meter
         force: c,
         taken: 0,
         work: Work {
-            settings: Settings { n, b, track },
+            settings: Settings {
+                n,
+                b,
+                track,
+                config,
+            },
             sums: Sums::none(),
             any: false,
             last: Closed::none(),
@@ -264,20 +286,21 @@ fn fresh(n: u32, b: u64, track: [WordAddr; 6]) -> Meter
     }
 }
 
-// N 1, B 1, all slots off.
+// N 1, B 1, all slots off, configuration 0.
 pub fn lowest() -> Meter
     ensures { λ r. ⌜ r ≡ lowestMeter ⌝ }
 {
-    fresh(1, 1, [WordAddr(0); 6])
+    fresh(1, 1, [WordAddr(0); 6], 0)
 }
 
-// A start with N, B and the six words to track.
-pub fn start(n: i64, b: i64, track: [WordAddr; 6]) -> Started
-    ensures { λ r. ⌜ r ≡ startOf n b track ⌝ }
+// A start with N, B, the six words to track and the configuration.
+pub fn start(n: i64, b: i64, track: [WordAddr; 6], config: i64) -> Started
+    ensures { λ r. ⌜ r ≡ startOf n b track config ⌝ }
 {
     let slots = address::all_slots(track);
-    if (1 <= n) & (n <= 4096) & (1 <= b) & (b <= 281474976710655) & slots {
-        let m = fresh(n as u32, b as u64, track);
+    let board = (0 <= config) & (config <= 255);
+    if (1 <= n) & (n <= 4096) & (1 <= b) & (b <= 281474976710655) & slots & board {
+        let m = fresh(n as u32, b as u64, track, config as u8);
         return Started { ok: true, meter: m };
     }
     let low = lowest();

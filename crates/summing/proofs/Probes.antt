@@ -1,40 +1,48 @@
--- The samples' loop, with the card's values taken out of it once.
+-- Samples by a probe are samples by the card and the configuration that it was taken out of; and one more turn of the loop.
 use Prim.Native.Nat.{ℕ, _+_, _≤_, _<_}
 use mathlib.Core.Path.{_≡_, refl, ap, _∙_}
 use mathlib.Core.List.{List, [], _∷_}
 use native.Mathlib.Numerals.{add-one}
 use native.Mathlib.Omega.{arith}
-use lib.ListN.{length, getD, drop, drop-of-length-le}
-use lib.IntN.{ℤ, pos}
+use lib.ListN.{length, drop, drop-of-length-le}
+use lib.IntN.{ℤ}
 use Rattle.card.specs.declared.Card.{Card}
+use Rattle.sample.specs.declared.Inputs.{Inputs}
 use Rattle.sample.specs.declared.Sums.{Sums}
-use Rattle.sample.specs.Sample.{voltage, current, phased, voltageClipped, currentClipped}
+use Rattle.sample.specs.Sample.{correction, voltage, input, phased, voltageClipped, inputClipped, sourceCurrent}
 use Rattle.sample.specs.Sums.{Sample, samplesIn, added, addedAll}
 use Rattle.sample.specs.Inside.{Phased}
-use Rattle.sample.proofs.Slices.{samples-long, samples-at}
+use Rattle.sample.proofs.Corrections.{corrected-in}
+use Rattle.sample.proofs.Slices.{sampleAt, samples-long, samples-at}
 use Rattle.summing.specs.declared.Probe.{Probe}
-use Rattle.summing.specs.Inside.{probeOf, probed, probedAll}
+use Rattle.summing.specs.Inside.{probeOf, bothOf, mixedBoth, probed, probedAll, Within}
 
 -- a turn of the loop
-pub probe-more : (p : Probe) (s : Sums) (vs is : List ℤ) (k : ℕ) → k < length vs → length vs ≡ length is →
-    probedAll p s (drop k (samplesIn vs is)) ≡ probedAll p (probed p s (getD vs k (pos 0), getD is k (pos 0))) (drop (k + 1) (samplesIn vs is))
-unfolding probedAll
-probe-more p s vs is k h e = rw (samples-at vs is k h e, add-one)
+module _ (p : Probe) (s : Sums) (v s1 s3 : List ℤ) (k : ℕ) (e : length v ≡ length s1) (f : length v ≡ length s3) where
+  pub probe-more : k < length v → probedAll p s (drop k (samplesIn v s1 s3)) ≡ probedAll p (probed p s (sampleAt v s1 s3 k)) (drop (k + 1) (samplesIn v s1 s3))
+  unfolding probedAll
+  probe-more h = rw (samples-at v s1 s3 k h e f, add-one)
 
-pub probe-end : (p : Probe) (s : Sums) (vs is : List ℤ) (k : ℕ) → length vs ≤ k → length vs ≡ length is → probedAll p s (drop k (samplesIn vs is)) ≡ s
-unfolding probedAll
-probe-end p s vs is k h e = rw (drop-of-length-le (samplesIn vs is) {i = k} (omega (arith, samples-long vs is e)))
+  pub probe-end : length v ≤ k → probedAll p s (drop k (samplesIn v s1 s3)) ≡ s
+  unfolding probedAll
+  probe-end h = rw (drop-of-length-le (samplesIn v s1 s3) {i = k} (omega (arith, samples-long v s1 s3 e f)))
 
--- what the card does, taken out once
-probe-one : (c : Card) (s : Sums) (x : Sample) → probed (probeOf c) s x ≡ added c s (x .0) (x .1)
-unfolding probed probeOf added voltage current phased voltageClipped currentClipped
-probe-one c s x = refl
+-- what the card and the configuration do, taken out once
+module _ (c : Card) (g : ℕ) where
+  probe-one : (s : Sums) (x : Sample) → probed (probeOf c g) s x ≡ added c g s x
+  unfolding probed probeOf bothOf mixedBoth correction added voltage input phased voltageClipped inputClipped sourceCurrent
+  probe-one s x = refl
 
-pub probe-is : (c : Card) (s : Sums) (xs : List Sample) → probedAll (probeOf c) s xs ≡ addedAll c s xs
-unfolding probedAll addedAll
-probe-is c s [] = refl
-probe-is c s (x ∷ xs) = ap (λ (t : Sums). probedAll (probeOf c) t xs) (probe-one c s x) ∙ probe-is c (added c s (x .0) (x .1)) xs
+  pub probe-is : (s : Sums) (xs : List Sample) → probedAll (probeOf c g) s xs ≡ addedAll c g s xs
+  unfolding probedAll addedAll
+  probe-is s [] = refl
+  probe-is s (x ∷ xs) = ap (λ (t : Sums). probedAll (probeOf c g) t xs) (probe-one s x) ∙ probe-is (added c g s x) xs
 
-pub phase-most : (c : Card) → Phased c → probeOf c .phase ≤ 4095
-unfolding probeOf
-phase-most c h = h .high
+  pub phase-most : Phased c → probeOf c g .phase ≤ 4095
+  unfolding probeOf
+  phase-most h = h .high
+
+-- corrected inputs are in the 24-bit range
+pub both-within : (p : Probe) (raw : Inputs) → Within (bothOf p raw)
+unfolding bothOf correction
+both-within p raw = record { s1 = corrected-in (raw .s1) (p .ioffs) (p .igain); s3 = corrected-in (raw .s3) (p .ioffs) (p .igain) }

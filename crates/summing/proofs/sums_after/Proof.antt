@@ -1,12 +1,15 @@
 -- `sums_after` meets its contract.
-use mir.Facts.{toZ-ofZ}
-use Rattle.summing.specs.Inside.{unpacked, tallied}
+use Rattle.summing.specs.Inside.{tallied}
+use borrow.Author.Needs.{needs}
 use Rattle.summing.proofs.sums_after.Statement.{statement}
 use Rattle.summing.proofs.sums_after.Tie as tie
 
+clips-in-requires : tie.Need-clips-in-requires
+clips-in-requires c κs = search needs
+
 returns : tie.Need-returns
-unfolding tallied unpacked
-returns c = rw (toZ-ofZ (c .before .before .before .fits .raw))
+unfolding tallied
+returns c = rw (c .clips-in .ensures)
 
 pub sums-after-spec : {M : Type 1} → statement M
-sums-after-spec = tie.close (tie.spec returns)
+sums-after-spec = tie.close (tie.spec clips-in-requires returns)

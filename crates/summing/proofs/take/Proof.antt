@@ -1,61 +1,81 @@
 -- `take` meets its contract.
-use native.Mathlib.Omega.{arith}
-use mathlib.Core.Path.{_≡_}
-use Prim.Native.Nat.{_<_}
-use lib.Signed.{mag}
-use mir.Syntax.{w32, w64}
-use mir.Val.{SFits}
+use Rattle.summing.specs.Inside.{mixedBoth, takenInto}
+use Rattle.sample.proofs.Corrections.{corrected-in}
+use Rattle.sample.specs.Sample.{correction}
+use Rattle.source.specs.Sources.{blended}
+use Rattle.source.proofs.Blends.{blended-in}
+use Rattle.range.proofs.Ranges.{in-fits, in-mag}
+use borrow.Author.Needs.{sfits-of}
 use mir.Facts.{toZ-ofZ}
-use Rattle.sample.specs.Sample.{correction, mixed}
-use Rattle.sample.proofs.Corrections.{mixed-in, corrected-in}
-use borrow.Author.Needs.{needs, sfits-of}
+use mir.Val.{SFits}
+use mir.Syntax.{w32}
+use mathlib.Core.Path.{_≡_, _∙_}
+use borrow.Author.Needs.{needs}
 use Rattle.summing.proofs.take.Statement.{statement}
 use Rattle.summing.proofs.take.Tie as tie
 
 correct-requires : tie.Need-correct-requires
 correct-requires c κs = search needs
 
-mix-requires : tie.Need-mix-requires
-mix-requires c κs = search needs
+mix-both-requires : tie.Need-mix-both-requires
+mix-both-requires c κs = search needs
 
-voffs-fits : (c : tie.After-struct-told2) → SFits w32 (c .before .before .args .p .voffs)
-voffs-fits c = search needs
+blend-requires : tie.Need-blend-requires
+blend-requires c κs = search needs
 
-vgain-fits : (c : tie.After-struct-told2) → SFits w32 (c .before .before .args .p .vgain)
-vgain-fits c = search needs
+blend-requires-2 : tie.Need-blend-requires-2
+blend-requires-2 c κs = search needs
 
-now-fits : (c : tie.After-struct-told3) → SFits w32 (c .before .before .before .before .args .now .value)
-now-fits c = search needs
+-- the corrected voltage
+voltage-is : (c : tie.After-correct) → let a = c .before .before .before .args in c .correct .result ≡ correction (a .v) (a .p .voffs) (a .p .vgain)
+voltage-is c =
+    let start = c .before .before .before in
+    let h : SFits w32 (start .args .p .voffs) = search needs in
+    let k : SFits w32 (start .args .p .vgain) = search needs in
+    c .correct .ensures ∙ rw (toZ-ofZ (start .fits .v), toZ-ofZ h, toZ-ofZ k)
 
-voltage-is : (c : tie.After-correct) → let s = c .before .before .before in c .correct .result ≡ correction (s .args .v) (s .args .p .voffs) (s .args .p .vgain)
-voltage-is c = rw (toZ-ofZ (c .before .before .before .fits .v), toZ-ofZ (voffs-fits (c .before)), toZ-ofZ (vgain-fits (c .before))) at (c .correct .ensures)
+-- both sources' currents, of the inputs as they are mixed
+a-is : (c : tie.After-blend) →
+    let mixed = c .before .before .before in
+    let a = mixed .before .before .before .before .args in
+    c .blend .result ≡ (let y = mixedBoth (a .p) (a .now) (a .old) in blended (a .p .a) (y .s1) (y .s3))
+a-is c =
+    let mixed = c .before .before .before in
+    let h : SFits w32 (mixed .mix-both .result .s1) = search needs in
+    let k : SFits w32 (mixed .mix-both .result .s3) = search needs in
+    c .blend .ensures ∙ rw (toZ-ofZ h, toZ-ofZ k, mixed .mix-both .ensures)
 
-voltage-in : (c : tie.After-correct) → mag (c .correct .result .value) < 8388608
-unfolding correction
-voltage-in c = let s = c .before .before .before in rw (voltage-is c) (corrected-in (s .args .v) (s .args .p .voffs) (s .args .p .vgain))
+b-is : (c : tie.After-blend2) →
+    let mixed = c .before .before .before .before .before .before in
+    let a = mixed .before .before .before .before .args in
+    c .blend2 .result ≡ (let y = mixedBoth (a .p) (a .now) (a .old) in blended (a .p .b) (y .s1) (y .s3))
+b-is c =
+    let mixed = c .before .before .before .before .before .before in
+    let h : SFits w32 (mixed .mix-both .result .s1) = search needs in
+    let k : SFits w32 (mixed .mix-both .result .s3) = search needs in
+    c .blend2 .ensures ∙ rw (toZ-ofZ h, toZ-ofZ k, mixed .mix-both .ensures)
 
-mix-is : (c : tie.After-mix) → let s = c .before .before .before .before .before in c .mix .result ≡ mixed (s .args .p .phase) (s .args .now .value) (s .args .old)
-mix-is c = let s = c .before .before .before .before .before in rw (toZ-ofZ (now-fits (c .before)), toZ-ofZ (s .fits .old)) at (c .mix .ensures)
+a-fits : (c : tie.After-blend) → SFits w32 (c .blend .result)
+a-fits c = sfits-of (c .blend .ok)
 
-mix-in : (c : tie.After-mix) → mag (c .mix .result) < 8388608
-mix-in c =
-    let s = c .before .before .before .before .before in
-    rw (mix-is c) (mixed-in (s .args .p .phase) (s .args .now .value) (s .args .old) (omega (arith, s .pre .1)) (s .pre .2) (s .pre .3))
-
-mix-fits : (c : tie.After-mix) → SFits w64 (c .mix .result)
-mix-fits c = sfits-of (c .mix .ok)
+b-fits : (c : tie.After-blend2) → SFits w32 (c .blend2 .result)
+b-fits c = sfits-of (c .blend2 .ok)
 
 add-requires : tie.Need-add-requires
-add-requires c κs =
-    let s = c .before .before .before .before .before in
-    rw (toZ-ofZ (mix-fits c)) (s .pre .0, voltage-in (c .before .before), mix-in c)
+unfolding correction
+add-requires c κs = (c .before .before .before .before .before .before .before .before .before .before .pre .0, rw (voltage-is (c .before .before .before .before .before .before .before)) (corrected-in _ _ _), rw (toZ-ofZ (a-fits (c .before .before .before)), a-is (c .before .before .before)) (blended-in _ _ _), rw (toZ-ofZ (b-fits c), b-is c) (blended-in _ _ _))
 
 returns : tie.Need-returns
-unfolding correction
-returns c =
-    let m = c .before in
-    let v = m .before .before in
-    rw (toZ-ofZ (mix-fits m), mix-is m, voltage-is v) at (c .add .ensures)
+unfolding takenInto correction
+returns c = c .add .ensures ∙ rw (voltage-is (c .before .before .before .before .before .before .before .before), toZ-ofZ (a-fits (c .before .before .before .before)), a-is (c .before .before .before .before), toZ-ofZ (b-fits (c .before)), b-is (c .before))
 
 pub take-spec : {M : Type 1} → statement M
-take-spec = tie.close (tie.spec correct-requires mix-requires add-requires returns)
+take-spec =
+    tie.close
+    (tie.spec
+    correct-requires
+    mix-both-requires
+    blend-requires
+    blend-requires-2
+    add-requires
+    returns)

@@ -1,15 +1,15 @@
 -- `with_samples` meets its contract.
-use Prim.Native.Nat.{_+_, _-_, _≤_}
-use mathlib.Core.Path.{_≡_, refl, sym, ap₂, _∙_}
-use mathlib.Core.Bool.{true, _&&_}
-use denote.Ref.{now}
-use lib.Dec.{leb}
-use lib.ListN.{length}
-use borrow.Author.Needs.{needs}
-use borrow.Author.Tests.{leb-true, lt-leb, ne-eqb}
+use Rattle.sample.proofs.Tests.{both-of, phased-of, room-of, few-is, lengths-same, joins, stays-unequal, stays-long, stays-by}
+use Rattle.sample.specs.Sums.{ofAtMost, phaseInRange, sameLength}
 use native.Mathlib.Omega.{arith}
-use Rattle.sample.specs.Sums.{ofAtMost, phaseInRange}
-use Rattle.sample.proofs.Tests.{both-of, phased-of, room-of, few-is, joins, stays-unequal, stays-long, stays-by}
+use borrow.Author.Tests.{leb-true, lt-leb}
+use lib.ListN.{length}
+use lib.Dec.{leb}
+use denote.Ref.{now}
+use mathlib.Core.Bool.{true, _&&_}
+use mathlib.Core.Path.{_≡_, refl, sym, ap₂, _∙_}
+use Prim.Native.Nat.{_+_, _-_, _≤_}
+use borrow.Author.Needs.{needs}
 use Rattle.summing.proofs.with_samples.Statement.{statement}
 use Rattle.summing.proofs.with_samples.Tie as tie
 
@@ -43,35 +43,26 @@ roomy c =
     let two : _ = both-of _ _ (all .0) in
     record { few = leb-true _ _ (two .0); sums = two .1; phase = all .1 }
 
+-- the code's test of the lengths is the definition's
+same-is : (c : tie.Then1) → let a = c .before .args in sameLength (now (a .v)) (now (a .s1)) (now (a .s3)) ≡ true
+unfolding sameLength
+same-is c = c .if1 .taken
+
 run-requires : tie.Need-run-requires
-run-requires c κs =
-    let one = c .before .before .before .before in
-    let a = one .before .args in
-    let r = roomy c in
-    (phased-of (a .c) (r .phase), record { had = a .n; few = r .few; room = room-of (a .n) (a .s) (r .sums) .1 }, one .if1 .taken)
+run-requires c κs = let a = c .before .before .before .before .before .args in let r = roomy c in let e = lengths-same (now (a .v)) (now (a .s1)) (now (a .s3)) (same-is (c .before .before .before .before)) in (phased-of (a .c) (r .phase), record { had = a .n; few = r .few; room = room-of (a .n) (a .s) (r .sums) .1 }, e .0, e .1)
 
 returns : tie.Need-returns
-returns c =
-    let one = c .before .before .before .before .before in
-    let a = one .before .args in
-    let r = roomy (c .before) in
-    c .run .ensures ∙ sym (joins (a .n) (a .c) (a .s) (now (a .v)) (now (a .i)) (one .if1 .taken) (r .few) (r .sums) (r .phase))
+returns c = let a = c .before .before .before .before .before .before .args in let r = roomy (c .before) in c .run .ensures ∙ sym (joins (a .n) (a .c) (a .config) (a .s) (now (a .v)) (now (a .s1)) (now (a .s3)) (same-is (c .before .before .before .before .before)) (r .few) (r .sums) (r .phase))
 
 returns-2 : tie.Need-returns-2
-returns-2 c =
-    let a = c .before .before .before .before .before .args in
-    sym (stays-by (a .n) (a .c) (a .s) (now (a .v)) (now (a .i)) (leb (a .n + length (now (a .v))) 4096) refl (sym (tested (c .before)) ∙ c .if3 .left))
+returns-2 c = let a = c .before .before .before .before .before .args in sym (stays-by (a .n) (a .c) (a .config) (a .s) (now (a .v)) (now (a .s1)) (now (a .s3)) (leb (a .n + length (now (a .v))) 4096) refl (sym (tested (c .before)) ∙ c .if3 .left))
 
 returns-3 : tie.Need-returns-3
-returns-3 c =
-    let a = c .before .before .args in
-    let long = c .if2 .left in
-    sym (stays-long (a .n) (a .c) (a .s) (now (a .v)) (now (a .i)) (lt-leb (a .n + length (now (a .v))) 4096 (omega arith)))
+returns-3 c = let a = c .before .before .args in let long = c .if2 .left in sym (stays-long (a .n) (a .c) (a .config) (a .s) (now (a .v)) (now (a .s1)) (now (a .s3)) (lt-leb (a .n + length (now (a .v))) 4096 (omega arith)))
 
 returns-4 : tie.Need-returns-4
-returns-4 c =
-    let a = c .before .args in
-    sym (stays-unequal (a .n) (a .c) (a .s) (now (a .v)) (now (a .i)) (ne-eqb _ _ (c .if1 .left)))
+unfolding sameLength
+returns-4 c = let a = c .before .args in sym (stays-unequal (a .n) (a .c) (a .config) (a .s) (now (a .v)) (now (a .s1)) (now (a .s3)) (c .if1 .left))
 
 pub with-samples-spec : {M : Type 1} → statement M
 with-samples-spec =

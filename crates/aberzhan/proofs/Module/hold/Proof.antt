@@ -1,5 +1,5 @@
 -- `hold` meets its contract.
-use mathlib.Core.Path.{_≡_, sym, ap, _∙_}
+use mathlib.Core.Path.{_≡_, sym, ap, ap₂, _∙_}
 use mathlib.Core.Bool.{true, false}
 use lib.IntN.{ℤ}
 use mir.Facts.{toZ-ofZ}
@@ -9,7 +9,7 @@ use Rattle.aberzhan.specs.declared.Module.{Module}
 use Rattle.aberzhan.specs.declared.Holding.{Holding}
 use Rattle.aberzhan.specs.Inside.{isPort, held}
 use Rattle.aberzhan.proofs.Steps.{holds, hold-8}
-use Rattle.sample.specs.Sums.{noClips}
+use Rattle.sample.specs.declared.Clips.{Clips}
 use Rattle.alarm.specs.Masks.{noAlarms}
 use borrow.Author.Needs.{needs}
 use Rattle.aberzhan.proofs.Module.hold.Statement.{statement}
@@ -34,8 +34,8 @@ port c = rw (toZ-ofZ (c .before .before .fits .port)) at (sym (c .before .is-por
 no-port : (c : tie.Else1) → isPort (c .before .before .args .port) ≡ false
 no-port c = rw (toZ-ofZ (c .before .before .fits .port)) at (sym (c .before .is-port .ensures) ∙ c .if1 .left)
 
-abbrev not-held : Serial → Module → Holding
-not-held s m = record { answer = Refused 8; number = 0; serial = s; clips = noClips; alarms = noAlarms; after = m }
+abbrev not-held : Serial → Clips → Module → Holding
+not-held s k m = record { answer = Refused 8; number = 0; serial = s; clips = k; alarms = noAlarms; after = m }
 
 returns : tie.Need-returns
 returns c =
@@ -48,11 +48,15 @@ returns c =
     ∙ ap (held m p) (c .before .copy .ensures)
     ∙ holds m p (port one)
 
+unclipped-requires : tie.Need-unclipped-requires
+unclipped-requires c κs = search needs
+
 returns-2 : tie.Need-returns-2
 returns-2 c =
-    let start = c .before .before .before in
-    ap (λ (s : Serial). not-held s (start .args .self)) (c .none .ensures)
-    ∙ hold-8 (start .args .self) (start .args .port) (no-port (c .before))
+    let none = c .before in
+    let start = none .before .before .before in
+    ap₂ (λ (s : Serial) (k : Clips). not-held s k (start .args .self)) (none .none .ensures) (c .unclipped .ensures)
+    ∙ hold-8 (start .args .self) (start .args .port) (no-port (none .before))
 
 pub hold-spec : {M : Type 1} → statement M
-hold-spec = tie.close (tie.spec is-port-requires copy-requires hold-of-requires returns none-requires returns-2)
+hold-spec = tie.close (tie.spec is-port-requires copy-requires hold-of-requires returns none-requires unclipped-requires returns-2)

@@ -18,8 +18,8 @@ fresh-requires : tie.Need-fresh-requires
 fresh-requires c κs = search needs
 
 -- what the meter and the watch make of their settings
-made : (c : tie.After-start2) → let a = c .before .before .args in (c .before .start .result ≡ meterStart (a .n) (a .b) (a .track)) × (c .start2 .result ≡ watchStart (a .asked))
-made c = let start = c .before .before in (rw (toZ-ofZ (start .fits .n), toZ-ofZ (start .fits .b)) at (c .before .start .ensures), c .start2 .ensures)
+made : (c : tie.After-start2) → let a = c .before .before .args in (c .before .start .result ≡ meterStart (a .n) (a .b) (a .track) (a .config)) × (c .start2 .result ≡ watchStart (a .asked))
+made c = let start = c .before .before in (rw (toZ-ofZ (start .fits .n), toZ-ofZ (start .fits .b), toZ-ofZ (start .fits .config)) at (c .before .start .ensures), c .start2 .ensures)
 
 returns : tie.Need-returns
 returns c =
@@ -27,7 +27,7 @@ returns c =
     let w = t .before .before .before in
     let a = w .before .before .args in
     let m = made w in
-    rw (c .fresh .ensures, m .0, m .1) (start-done (a .n) (a .b) (a .track) (a .asked) (rw (m .0, m .1) at (t .if1 .taken)))
+    rw (c .fresh .ensures, m .0, m .1) (start-done (a .n) (a .b) (a .track) (a .asked) (a .config) (rw (m .0, m .1) at (t .if1 .taken)))
 
 lowest-requires : tie.Need-lowest-requires
 lowest-requires c κs = search needs
@@ -45,7 +45,7 @@ returns-2 c =
     let w = t .before .before .before in
     let a = w .before .before .args in
     let m = made w in
-    rw (c .fresh2 .ensures, low .lowest2 .ensures, low .before .lowest .ensures) (start-refused (a .n) (a .b) (a .track) (a .asked) (rw (m .0, m .1) at (t .if1 .left)))
+    rw (c .fresh2 .ensures, low .lowest2 .ensures, low .before .lowest .ensures) (start-refused (a .n) (a .b) (a .track) (a .asked) (a .config) (rw (m .0, m .1) at (t .if1 .left)))
 
 pub start-spec : {M : Type 1} → statement M
 start-spec =

@@ -1,10 +1,10 @@
--- `Registers::after` meets its contract.
-use mathlib.Core.Path.{_≡_}
-use Prim.Native.Nat.{_≤_, min}
-use native.Mathlib.Omega.{arith}
-use Rattle.rules.specs.Source.{vrmsOf}
-use Rattle.interval.specs.Close.{registersAfter}
+-- `after` meets its contract.
 use Rattle.rules.proofs.Bounds.{rms-most, small-fits, read-small}
+use Rattle.interval.specs.Close.{registersAfter}
+use Rattle.rules.specs.Source.{vrmsOf}
+use native.Mathlib.Omega.{arith}
+use Prim.Native.Nat.{_≤_, min}
+use mathlib.Core.Path.{_≡_}
 use borrow.Author.Needs.{needs}
 use Rattle.interval.proofs.Registers.after.Statement.{statement}
 use Rattle.interval.proofs.Registers.after.Tie as tie
@@ -17,11 +17,17 @@ volts-most : (c : tie.After-vrms) → c .vrms .result ≤ 8388607
 unfolding vrmsOf
 volts-most c = rw (c .vrms .ensures) (rms-most _ _ _)
 
+capped-is : (c : tie.After-vrms) → min (c .vrms .result) 8388607 ≡ c .vrms .result
+capped-is c = omega (arith, volts-most c)
+
 cast-v : tie.Need-cast-v
 cast-v c = small-fits (volts-most c)
 
 after-requires : tie.Need-after-requires
 after-requires c κs = search needs
+
+after-requires-2 : tie.Need-after-requires-2
+after-requires-2 c κs = search needs
 
 seven-of-requires : tie.Need-seven-of-requires
 seven-of-requires c κs = search needs
@@ -31,14 +37,16 @@ follow-requires c κs = search needs
 
 returns : tie.Need-returns
 unfolding registersAfter
-returns c =
-    let seven = c .before .before .before in
-    let source = seven .before .before in
-    let v = source .before .before .before in
-    let capped-is : min (v .vrms .result) 8388607 ≡ v .vrms .result = omega (arith, volts-most v) in
-    rw (c .follow .ensures, seven .seven-of .ensures, source .after .ensures, read-small (v .vrms .result) (volts-most v), capped-is, v .vrms .ensures)
+returns c = rw (c .follow .ensures, c .before .before .before .seven-of .ensures, c .before .before .before .before .before .before .after .ensures, c .before .before .before .before .before .after2 .ensures, read-small (c .before .before .before .before .before .before .before .vrms .result) (volts-most (c .before .before .before .before .before .before .before)), capped-is (c .before .before .before .before .before .before .before), c .before .before .before .before .before .before .before .vrms .ensures)
 
 pub after-spec : {M : Type 1} → statement M
 after-spec =
     tie.close
-    (tie.spec vrms-requires cast-v after-requires seven-of-requires follow-requires returns)
+    (tie.spec
+    vrms-requires
+    cast-v
+    after-requires
+    after-requires-2
+    seven-of-requires
+    follow-requires
+    returns)

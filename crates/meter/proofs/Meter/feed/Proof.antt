@@ -1,5 +1,7 @@
 -- `feed` meets its contract: each turn takes the samples of one interval.
-use Prim.Native.Nat.{_+_, _-_, _≤_, _<_}
+use Prim.Native.Nat.{ℕ, _+_, _-_, _≤_, _<_, min}
+use mathlib.Core.List.{List}
+use lib.IntN.{ℤ}
 use native.Mathlib.Omega.{arith}
 use mathlib.Core.Path.{_≡_, refl, sym, ap, _∙_}
 use borrow.Author.Needs.{needs}
@@ -8,6 +10,7 @@ use lib.ListN.{length, take, drop, length-take, length-drop}
 use Rattle.sample.specs.Sums.{samplesIn}
 use Rattle.meter.proofs.Sound.{Sound, sound-of, sound-yes}
 use Rattle.meter.specs.Inside.{fedOf, stretchOf}
+use Rattle.sample.proofs.Tests.{same-length, lengths-same}
 use Rattle.sample.proofs.Slices.{samples-long, samples-part}
 use Rattle.meter.proofs.Stretches.{fed-more, fed-end}
 use Rattle.meter.proofs.Keeping.{stretch-sound}
@@ -15,10 +18,18 @@ use Rattle.meter.proofs.Meter.feed.Statement.{statement}
 use Rattle.meter.proofs.Meter.feed.Tie as tie
 
 abbrev Inv-loop : tie.InvT-loop
-Inv-loop m₀ v i at₀ m at = (at ≤ length v) × Sound m × (fedOf m (drop at (samplesIn v i)) ≡ fedOf m₀ (samplesIn v i))
+Inv-loop m₀ v s1 s3 at₀ m at = (at ≤ length v) × Sound m × (fedOf m (drop at (samplesIn v s1 s3)) ≡ fedOf m₀ (samplesIn v s1 s3))
 
 abbrev μ-loop : tie.MeasureT-loop
-μ-loop m₀ v i at₀ m at = length v - at
+μ-loop m₀ v s1 s3 at₀ m at = length v - at
+
+-- the slices are of one length
+even : (c : tie.Start Inv-loop μ-loop) → (length (now (c .args .v)) ≡ length (now (c .args .s1))) × (length (now (c .args .v)) ≡ length (now (c .args .s3)))
+even c = lengths-same (now (c .args .v)) (now (c .args .s1)) (now (c .args .s3)) (c .pre .1)
+
+-- and so are the same parts of them
+part-long : (k a : ℕ) (x y : List ℤ) → length x ≡ length y → length (take k (drop a x)) ≡ length (take k (drop a y))
+part-long k a x y e = simp (length-take, length-drop) (ap (λ (n : ℕ). min k (n - a)) e)
 
 loop-holds : tie.Need-loop-holds Inv-loop μ-loop
 loop-holds c = (omega arith, sound-of (c .args .self) (c .pre .0), refl)
@@ -62,38 +73,65 @@ part-stretch-start-2 : tie.Need-part-stretch-start-2 Inv-loop μ-loop
 part-stretch-start-2 c = omega (arith, span (c .before))
 
 part-stretch-end-2 : tie.Need-part-stretch-end-2 Inv-loop μ-loop
-part-stretch-end-2 c = omega (arith, span (c .before), c .before .before .before .before .pre .1)
+part-stretch-end-2 c = omega (arith, span (c .before), even (c .before .before .before .before))
+
+mul-stretch-3 : tie.Need-mul-stretch-3 Inv-loop μ-loop
+mul-stretch-3 c = search needs
+
+sub-stretch-3 : tie.Need-sub-stretch-3 Inv-loop μ-loop
+sub-stretch-3 c = omega (arith, span (c .before .before))
+
+part-stretch-start-3 : tie.Need-part-stretch-start-3 Inv-loop μ-loop
+part-stretch-start-3 c = omega (arith, span (c .before .before))
+
+part-stretch-end-3 : tie.Need-part-stretch-end-3 Inv-loop μ-loop
+part-stretch-end-3 c = omega (arith, span (c .before .before), even (c .before .before .before .before .before))
 
 stretch-requires : tie.Need-stretch-requires Inv-loop μ-loop
 stretch-requires c κs =
-    let reach = c .before .before in
-    let top = reach .before .before in
-    let s = span reach in
-    let e = top .before .pre .1 in
-    simp (length-take, length-drop) ((sound-yes (top .loop .self) (top .loop .inv .1), omega arith), omega arith)
-
-loop-less : tie.Need-loop-less Inv-loop μ-loop
-loop-less c = omega (arith, span (c .before .before .before))
-
-loop-again : tie.Need-loop-again Inv-loop μ-loop
-loop-again c =
     let reach = c .before .before .before in
     let top = reach .before .before in
     let a = top .before .args in
+    let at = top .loop .at in
+    let n = reach .reach .result - at in
+    let s = span reach in
+    let e = even (top .before) in (
+      (
+        sound-yes (top .loop .self) (top .loop .inv .1),
+        same-length _ _ _ (part-long n at (now (a .v)) (now (a .s1)) (e .0)) (part-long n at (now (a .v)) (now (a .s3)) (e .1)),
+      ),
+      simp (length-take, length-drop) (omega arith),
+    )
+
+loop-less : tie.Need-loop-less Inv-loop μ-loop
+loop-less c = omega (arith, span (c .before .before .before .before))
+
+loop-again : tie.Need-loop-again Inv-loop μ-loop
+loop-again c =
+    let reach = c .before .before .before .before in
+    let top = reach .before .before in
+    let a = top .before .args in
     let v = now (a .v) in
-    let i = now (a .i) in
+    let s1 = now (a .s1) in
+    let s3 = now (a .s3) in
     let m = top .loop .self in
     let at = top .loop .at in
     let to = reach .reach .result in
     let s = span reach in
-    let e = top .before .pre .1 in
-    let l = samples-long v i e in
-    let part = samples-part (to - at) at v i in
-    let is : c .stretch .result ≡ stretchOf m (take (to - at) (drop at (samplesIn v i))) = c .stretch .ensures ∙ ap (stretchOf m) part in
-    let fits : m .taken + length (take (to - at) (drop at (samplesIn v i))) ≤ m .work .settings .n = simp (length-take, length-drop) (omega arith) in (
+    let a = top .before .args in
+    let v = now (a .v) in
+    let s1 = now (a .s1) in
+    let s3 = now (a .s3) in
+    let at = top .loop .at in
+    let to = reach .reach .result in
+    let e = even (top .before) in
+    let l = samples-long v s1 s3 (e .0) (e .1) in
+    let part = samples-part (to - at) at v s1 s3 in
+    let is : c .stretch .result ≡ stretchOf m (take (to - at) (drop at (samplesIn v s1 s3))) = c .stretch .ensures ∙ ap (stretchOf m) part in
+    let fits : m .taken + length (take (to - at) (drop at (samplesIn v s1 s3))) ≤ m .work .settings .n = simp (length-take, length-drop) (omega arith) in (
       omega (arith, s .within),
-      rw is (stretch-sound m (take (to - at) (drop at (samplesIn v i))) (top .loop .inv .1) fits),
-      rw is (sym (fed-more m (samplesIn v i) at to (s .some) (omega arith) (s .fits)) ∙ top .loop .inv .2),
+      rw is (stretch-sound m (take (to - at) (drop at (samplesIn v s1 s3))) (top .loop .inv .1) fits),
+      rw is (sym (fed-more m (samplesIn v s1 s3) at to (s .some) (omega arith) (s .fits)) ∙ top .loop .inv .2),
     )
 
 returns : tie.Need-returns Inv-loop μ-loop
@@ -101,8 +139,10 @@ returns c =
     let top = c .before in
     let a = top .before .args in
     let v = now (a .v) in
-    let i = now (a .i) in
-    sym (fed-end (top .loop .self) (samplesIn v i) (top .loop .at) (omega (arith, samples-long v i (top .before .pre .1)))) ∙ top .loop .inv .2
+    let s1 = now (a .s1) in
+    let s3 = now (a .s3) in
+    let e = even (top .before) in
+    sym (fed-end (top .loop .self) (samplesIn v s1 s3) (top .loop .at) (omega (arith, samples-long v s1 s3 (e .0) (e .1)))) ∙ top .loop .inv .2
 
 pub feed-spec : {M : Type 1} → statement M
 feed-spec =
@@ -120,6 +160,10 @@ feed-spec =
     sub-stretch-2
     part-stretch-start-2
     part-stretch-end-2
+    mul-stretch-3
+    sub-stretch-3
+    part-stretch-start-3
+    part-stretch-end-3
     stretch-requires
     loop-less
     loop-again

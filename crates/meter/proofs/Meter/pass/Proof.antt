@@ -7,6 +7,7 @@ use lib.IntN.{ℤ}
 use denote.Ref.{now}
 use Rattle.card.specs.declared.Card.{Card}
 use Rattle.sample.specs.Sums.{samplesIn}
+use Rattle.sample.proofs.Tests.{lengths-same}
 use Rattle.halfcycle.specs.declared.Passed.{Passed}
 use Rattle.alarm.specs.Alarms.{Watching, both}
 use Rattle.halfcycle.specs.Passing.{seenBy, watchSound, passedBy, passOf, voltsAfter}
@@ -73,11 +74,12 @@ returns c =
     let q = both (a .a) (now (a .volts)) in
     let w : watchSound q ≡ true = sym (d .ok) ∙ c .before .if2 .taken in
     let k : carded m ≡ true = sym (h .before .has-card .ensures) ∙ h .if1 .taken in
+    let e = lengths-same v (now (a .s1)) (now (a .s3)) (start .pre) in
     let by = d .left
     ∙ ap (λ (b : Bool). cond b (seenBy (m .force) (cardBehind m) (turnOf m) q v) q) w
-    ∙ ap (λ (l : List ℤ). seenBy (m .force) (cardBehind m) (turnOf m) q l) (sym (voltages-in v (now (a .i)) (start .pre)))
-    ∙ sym (watched-by m (samplesIn v (now (a .i))) q (sound-of m (carded-sound m k) .taken-most)) in
-    let r = pass-done m q v (now (a .i)) (both (p .pass .result .watch) (p .pass .last .1 .0)) k w by in
+    ∙ ap (λ (l : List ℤ). seenBy (m .force) (cardBehind m) (turnOf m) q l) (sym (voltages-in v (now (a .s1)) (now (a .s3)) (e .0) (e .1)))
+    ∙ sym (watched-by m (samplesIn v (now (a .s1)) (now (a .s3))) q (sound-of m (carded-sound m k) .taken-most)) in
+    let r = pass-done m q v (now (a .s1)) (now (a .s3)) (both (p .pass .result .watch) (p .pass .last .1 .0)) k w by in
     (rw (c .feed .ensures) (r .0), r .1)
 
 returns-2 : tie.Need-returns-2
@@ -90,7 +92,7 @@ returns-2 c =
     let v = now (a .v) in
     let q = both (a .a) (now (a .volts)) in
     let w : watchSound q ≡ false = sym (d .ok) ∙ c .if2 .left in
-    let r = pass-18 m q v (now (a .i)) (watch-none m q w) in
+    let r = pass-18 m q v (now (a .s1)) (now (a .s3)) (watch-none m q w) in
     let same = d .left ∙ ap (λ (b : Bool). cond b (seenBy (m .force) (cardBehind m) (turnOf m) q v) q) w in
     (r .0, ap (λ (z : Watching). z .volts) same ∙ r .1)
 
@@ -98,7 +100,7 @@ returns-3 : tie.Need-returns-3
 returns-3 c =
     let a = c .before .before .args in
     let q = both (a .a) (now (a .volts)) in
-    pass-18 (a .self) q (now (a .v)) (now (a .i)) (card-none (a .self) q (sym (c .before .has-card .ensures) ∙ c .if1 .left))
+    pass-18 (a .self) q (now (a .v)) (now (a .s1)) (now (a .s3)) (card-none (a .self) q (sym (c .before .has-card .ensures) ∙ c .if1 .left))
 
 pub pass-spec : {M : Type 1} → statement M
 pass-spec =

@@ -8,7 +8,7 @@ use mathlib.Core.Bool.{true}
 use mathlib.Core.Path.{_∙_}
 use Rattle.sample.specs.Sums.{samplesIn, addedAll, ofAtMost}
 use Rattle.sample.proofs.Slices.{samples-long}
-use Rattle.sample.proofs.Tests.{phased-yes, room-yes, joins}
+use Rattle.sample.proofs.Tests.{phased-yes, room-yes, lengths-same, joins}
 use Rattle.meter.proofs.Sound.{sound-of}
 use borrow.Author.Needs.{needs}
 use Rattle.meter.proofs.Meter.stretch.Statement.{statement}
@@ -24,7 +24,7 @@ with-samples-requires c κs = search needs
 joined : (c : tie.After-with-samples) →
     let begun = c .before in
     let a = begun .before .args in
-    c .with-samples .result ≡ addedAll (begun .begun .result .force) (begun .begun .result .work .sums) (samplesIn (now (a .v)) (now (a .i)))
+    c .with-samples .result ≡ addedAll (begun .begun .result .force) (begun .begun .result .work .settings .config) (begun .begun .result .work .sums) (samplesIn (now (a .v)) (now (a .s1)) (now (a .s3)))
 joined c =
     let begun = c .before in
     let start = begun .before in
@@ -36,7 +36,7 @@ joined c =
     let sums : ofAtMost (a .self .taken) (q .work .sums) ≡ true =
     rw (e, b .work) (room-yes (a .self .taken) (a .self .work .sums) (omega (arith, h .n-most, h .taken-most)) (h .room)) in
     c .with-samples .ensures
-    ∙ joins (a .self .taken) (q .force) (q .work .sums) (now (a .v)) (now (a .i)) (start .pre .0 .1) (omega (arith, h .n-most)) sums (rw e (phased-yes (begunOf (a .self) .force) (b .force)))
+    ∙ joins (a .self .taken) (q .force) (q .work .settings .config) (q .work .sums) (now (a .v)) (now (a .s1)) (now (a .s3)) (start .pre .0 .1) (omega (arith, h .n-most)) sums (rw e (phased-yes (begunOf (a .self) .force) (b .force)))
 
 with-sums-requires : tie.Need-with-sums-requires
 with-sums-requires c κs = search needs
@@ -61,7 +61,8 @@ returns c =
     let begun = s .before .before in
     let start = begun .before in
     let a = start .args in
-    rw (c .ended .ensures, s .with-sums .ensures, joined (s .before), begun .begun .ensures, samples-long (now (a .v)) (now (a .i)) (start .pre .0 .1))
+    let e = lengths-same (now (a .v)) (now (a .s1)) (now (a .s3)) (start .pre .0 .1) in
+    rw (c .ended .ensures, s .with-sums .ensures, joined (s .before), begun .begun .ensures, samples-long (now (a .v)) (now (a .s1)) (now (a .s3)) (e .0) (e .1))
 
 pub stretch-spec : {M : Type 1} → statement M
 stretch-spec =

@@ -24,14 +24,14 @@ use Rattle.packet.specs.declared.Ending.the-variants.{Whole, Fails, Unanswered}
 use Rattle.packet.specs.Commands.{askedBy}
 use Rattle.packet.specs.Replies.{Reply, noReply, code, values, joined, readAll, sending, replied, replyTo, valuesReply, replyBytes, sends}
 use Rattle.poll.specs.Polls.{readAt, replyFrom}
 use Rattle.aberzhan.specs.declared.Module.{Module}
 use Rattle.aberzhan.specs.declared.Polled.{Polled}
-use Rattle.aberzhan.specs.Ports.{aberzhan}
+use Rattle.calls.specs.Ports.{aberzhan}
 use Rattle.aberzhan.specs.Module.{withHeld, portAt, holdOf, readOf}
 use Rattle.aberzhan.specs.Polling.{heldNow, pollReply, afterReply, pollOf, pollBuffer}
-use Rattle.aberzhan.specs.Calls.{Call, callHold, stepOf, returned, program}
-use Rattle.aberzhan.specs.Turns.{sentBy, readCall, pollCalls}
-use Rattle.aberzhan.specs.Counting.{valuesRead, PollCounts}
+use Rattle.calls.specs.Calls.{Call, callHold, stepOf, returned, program}
+use Rattle.calls.specs.Turns.{sentBy, readCall, pollCalls}
+use Rattle.calls.specs.Counting.{valuesRead, PollCounts}
 
 -- ---- a reply that sends registers
 

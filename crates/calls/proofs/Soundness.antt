@@ -40,11 +40,11 @@ use Rattle.steps.specs.declared.Answer.the-variants.{Done, Refused}
 use Rattle.meter.proofs.Agreement.{feeds-sound, wait-sound}
 use Rattle.meter.proofs.Starts.{numbers-in}
 use Rattle.desk.specs.declared.Desk.{Desk}
 use Rattle.aberzhan.specs.declared.Module.{Module}
 use Rattle.aberzhan.specs.declared.Stepped.{Stepped}
 use Rattle.desk.specs.Desks.{Edit, openWith, writeField, shutDesk, emptyCard, withField, opening, writing, allWritten, cardOn, finished}
-use Rattle.aberzhan.specs.Ports.{aberzhan}
+use Rattle.calls.specs.Ports.{aberzhan}
 use Rattle.aberzhan.specs.Module.{freshModule, settingsOk, startOf}
 
 -- ---- the PHASE on a desk
 empty-phased : (s : Serial) → Phased (cardOn (emptyCard s))

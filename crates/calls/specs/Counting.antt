@@ -10,11 +10,11 @@ use Rattle.steps.specs.Calls.{Log}
 use Rattle.serial.specs.Places.{put}
 use Rattle.port.specs.Holds.{Value, interval, register}
 use Rattle.packet.specs.Replies.{valuesReply}
 use Rattle.aberzhan.specs.declared.Module.{Module}
-use Rattle.aberzhan.specs.Ports.{aberzhan}
+use Rattle.calls.specs.Ports.{aberzhan}
 use Rattle.aberzhan.specs.Polling.{pollOf, pollBuffer}
-use Rattle.aberzhan.specs.Calls.{program}
-use Rattle.aberzhan.specs.Turns.{sentBy, pollCalls}
+use Rattle.calls.specs.Calls.{program}
+use Rattle.calls.specs.Turns.{sentBy, pollCalls}
 
 -- what the reads among these returned, in their order
 abbrev pub valuesRead : List (Op aberzhan × Value) → List ℤ

@@ -5,12 +5,12 @@ use mathlib.Core.Option.{some}
 use Rattle.steps.specs.Port.{Port, port0, port1}
 use Rattle.steps.specs.declared.Answer.the-variants.{Refused}
 use Rattle.port.specs.Holds.{copyOf, copied}
 use Rattle.aberzhan.specs.declared.Module.{Module}
 use Rattle.aberzhan.specs.declared.Holding.{Holding}
 use Rattle.aberzhan.specs.Module.{portAt, holdOf}
-use Rattle.aberzhan.specs.Calls.{numberOf}
-use Rattle.aberzhan.specs.Told.{TellsOf}
-use Rattle.aberzhan.proofs.Contracts.{Holds, held-by}
+use Rattle.calls.specs.Calls.{numberOf}
+use Rattle.calls.specs.Told.{TellsOf}
+use Rattle.calls.proofs.Contracts.{Holds, held-by}
 
 last-told : (m : Module) (q : Port) → m .meter .work .any ≡ true → TellsOf (m .meter .work .last) (m .watch .alarms) (holdOf m (numberOf (some q)))
 unfolding holdOf portAt copied copyOf

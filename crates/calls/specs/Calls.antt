@@ -17,12 +17,12 @@ use Rattle.port.specs.declared.Reading.{Reading}
 use Rattle.port.specs.declared.Reading.the-variants.{Value as ReadOut, Refused as NotRead}
 use Rattle.desk.specs.Desks.{openWith, writeField}
 use Rattle.port.specs.Holds.{interval, register}
 use Rattle.aberzhan.specs.declared.Module.{Module}
 use Rattle.aberzhan.specs.declared.Stepped.{Stepped}
 use Rattle.aberzhan.specs.declared.Holding.{Holding}
 use Rattle.aberzhan.specs.declared.Looked.{Looked}
-use Rattle.aberzhan.specs.Ports.{aberzhan}
+use Rattle.calls.specs.Ports.{aberzhan}
 use Rattle.aberzhan.specs.Module.{watchOf, portAt, openOf, writeOf, commitOf, dropOf, holdOf, readOf, blockOf, resetOf}
 
 -- ---- the struct as the state of crate `steps`, and back
 

@@ -11,39 +11,39 @@ use Rattle.promise.specs.Determined.{Allowed}
 use Rattle.steps.specs.Calls.{Reply, Methods, Log, noted, Ran, ended, called}
 use Rattle.address.specs.declared.WordAddr.{WordAddr}
 use Rattle.alarm.specs.declared.Asked.{Asked}
 use Rattle.aberzhan.specs.declared.Module.{Module}
 use Rattle.aberzhan.specs.declared.Stepped.{Stepped}
 use Rattle.aberzhan.specs.declared.Holding.{Holding}
 use Rattle.aberzhan.specs.declared.Looked.{Looked}
 use Rattle.aberzhan.specs.declared.Polled.{Polled}
 use Rattle.aberzhan.specs.declared.Cards.{Cards}
-use Rattle.aberzhan.specs.Ports.{aberzhan}
+use Rattle.calls.specs.Ports.{aberzhan}
 use Rattle.aberzhan.specs.Module.{startOf, holdOf}
 use Rattle.aberzhan.specs.Polling.{pollOf, pollBuffer}
 use Rattle.aberzhan.specs.Cards.{cardsOf}
-use Rattle.aberzhan.specs.Calls.{stateOf, Call, callOpen, callWrite, callCommit, callDrop, callHold, callRead, callBlock, callReset, stepOf, callOf, fromStep, fromHold, fromRead, returned, program}
+use Rattle.calls.specs.Calls.{stateOf, Call, callOpen, callWrite, callCommit, callDrop, callHold, callRead, callBlock, callReset, stepOf, callOf, fromStep, fromHold, fromRead, returned, program}
 use Rattle.aberzhan.proofs.Module.start.Kinds as starts-k
 use Rattle.aberzhan.proofs.Module.start.Reads as starts
 use Rattle.aberzhan.proofs.Module.open.Kinds as opens-k
 use Rattle.aberzhan.proofs.Module.open.Reads as opens
 use Rattle.aberzhan.proofs.Module.write.Kinds as writes-k
 use Rattle.aberzhan.proofs.Module.write.Reads as writes
 use Rattle.aberzhan.proofs.Module.commit.Kinds as commits-k
 use Rattle.aberzhan.proofs.Module.commit.Reads as commits
 use Rattle.aberzhan.proofs.Module.drop.Kinds as drops-k
 use Rattle.aberzhan.proofs.Module.drop.Reads as drops
 use Rattle.aberzhan.proofs.Module.hold.Kinds as holds-k
 use Rattle.aberzhan.proofs.Module.hold.Reads as holds
 use Rattle.aberzhan.proofs.Module.read.Kinds as reads-k
 use Rattle.aberzhan.proofs.Module.read.Reads as reads
 use Rattle.aberzhan.proofs.Module.poll.Kinds as polls-k
 use Rattle.aberzhan.proofs.Module.poll.Reads as polls
 use Rattle.aberzhan.proofs.Module.block.Kinds as blocks-k
 use Rattle.aberzhan.proofs.Module.block.Reads as blocks
 use Rattle.aberzhan.proofs.Module.reset.Kinds as resets-k
 use Rattle.aberzhan.proofs.Module.reset.Reads as resets
 use Rattle.aberzhan.proofs.Module.cards.Kinds as cards-k
 use Rattle.aberzhan.proofs.Module.cards.Reads as cards
 
 -- ---- the contracts
 

@@ -30,13 +30,13 @@ use Rattle.port.specs.Holds.{register, copied}
 use Rattle.port.specs.Reading.{look}
 use Rattle.port.specs.declared.Reading.the-variants.{Refused as NotRead}
 use Rattle.port.specs.Answers.{looked}
 use Rattle.aberzhan.specs.declared.Module.{Module}
 use Rattle.aberzhan.specs.declared.Stepped.{Stepped}
-use Rattle.aberzhan.specs.Ports.{aberzhan}
+use Rattle.calls.specs.Ports.{aberzhan}
 use Rattle.aberzhan.specs.Module.{deskOf, heldOf, withMeter, watchOf, withWatch, portAt, atPort as atPortOf, refusal, notHeld, atDesk, committing, holding, openOf, writeOf, commitOf, dropOf, holdOf, readOf, blockOf, resetOf}
-use Rattle.aberzhan.specs.Calls.{stateOf, moduleOf, Call, callOpen, callWrite, callCommit, callDrop, callHold, callRead, callBlock, callReset, stepOf, numberOf, callOf, readReply, fromStep, fromHold, returned}
-use Rattle.aberzhan.proofs.Soundness.{SoundModule, sounds}
-use Rattle.aberzhan.proofs.Contracts.{methods, allowed-is}
+use Rattle.calls.specs.Calls.{stateOf, moduleOf, Call, callOpen, callWrite, callCommit, callDrop, callHold, callRead, callBlock, callReset, stepOf, numberOf, callOf, readReply, fromStep, fromHold, returned}
+use Rattle.calls.proofs.Soundness.{SoundModule, sounds}
+use Rattle.calls.proofs.Contracts.{methods, allowed-is}
 
 -- what a call returns, of a step's outcome
 abbrev from : Module → Outcome aberzhan → Reply aberzhan × Module

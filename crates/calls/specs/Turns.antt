@@ -8,10 +8,10 @@ use lib.ListN.{length}
 use Rattle.steps.specs.Calls.{Log, noted}
 use Rattle.packet.specs.Commands.{askedBy}
 use Rattle.packet.specs.Replies.{replyBytes, sends}
 use Rattle.aberzhan.specs.declared.Module.{Module}
-use Rattle.aberzhan.specs.Ports.{aberzhan}
+use Rattle.calls.specs.Ports.{aberzhan}
 use Rattle.aberzhan.specs.Polling.{pollReply, pollOf}
-use Rattle.aberzhan.specs.Calls.{Call, callHold, callRead, stepOf, returned}
+use Rattle.calls.specs.Calls.{Call, callHold, callRead, stepOf, returned}
 
 pub data Turn : Type 0 where
   call : Call → Turn
