@@ -1,11 +1,11 @@
--- `print_registers` prints nine registers.
+-- `print_registers` prints the registers.
 use borrow.Author.Needs.{needs}
 use Prim.Native.Nat.{_-_, _≤_}
 use Rattle.pace.proofs.print_registers.Statement.{statement}
 use Rattle.pace.proofs.print_registers.Tie as tie
 
 abbrev Inv-loop : tie.InvT-loop
-Inv-loop held k₀ t3 k = k ≤ 9
+Inv-loop held k₀ t3 k = k ≤ 17
 
 abbrev μ-loop : tie.MeasureT-loop
 μ-loop held k₀ t3 k = 17 - k
