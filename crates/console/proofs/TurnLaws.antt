@@ -7,8 +7,8 @@ use native.Mathlib.Omega.{arith}
 use lib.Dec.{eqb}
 use lib.IntN.{ℤ, pos}
 use lib.Signed.{mag}
-use lib.ListN.{length, take, drop, getD, replicate, List·getD-append, length-replicate, replicate-append-replicate}
-use lib.Seq.{take-at, drop-at}
+use lib.ListN.{length, take, drop, getD, replicate, List·getD-append, length-drop, length-replicate, replicate-append-replicate}
+use lib.Seq.{take-at, drop-at, drop-drop}
 use mir.Syntax.{w64}
 use mir.Val.{toZ, ofZ}
 use mir.Facts.{toZ-ofZ}
@@ -20,15 +20,19 @@ use Rattle.aberzhan.specs.Module.{openOf, blockOf}
 use Rattle.aberzhan.specs.Polling.{pollBuffer}
 use Rattle.console.specs.declared.words.Word.{Word}
 use Rattle.console.specs.declared.words.Word.the-variants.{Start, Open, Write, Commit, Drop, Hold, Read, Poll, Block, Reset, Cards, Help, Other}
+use Rattle.console.specs.declared.unread.Why.{Why}
 use Rattle.console.specs.declared.unread.Why.the-variants.{TooLong, NoStep, Missing}
 use Rattle.console.specs.declared.items.Row.{Row}
 use Rattle.console.specs.declared.turns.Reply.{Reply}
+use Rattle.console.specs.declared.turns.Turn.{Turn}
 use Rattle.console.specs.Texts.{beginsWith, lengthTo}
 use Rattle.console.specs.Items.{rowOf, samples, bytes, Filled}
 use Rattle.console.specs.Words.{wordOf, itemsOf, enough}
-use Rattle.console.specs.Unread.{stoppedBefore, sideStopped, packetStopped}
-use Rattle.console.specs.Turns.{noReply, nth, unreadTurn, steppedTurn, toldReply, polledTurn, itemsTurn, withItems, withText, packetTurn, currentsTurn, withSamples, wordTurn, turnOf}
+use Rattle.console.specs.Unread.{stoppedBefore, sliceStopped, packetStopped}
+use Rattle.console.specs.Turns.{noReply, nth, unreadTurn, steppedTurn, toldReply, polledTurn, itemsTurn, withItems, withText, packetTurn, barred, sliceTurn, s3Turn, wordTurn, turnOf}
+use Rattle.console.specs.Inside.{Ended, Stopped}
 use Rattle.console.proofs.words.Word as Word-type
+use Rattle.console.proofs.TextLaws.{begins-within}
 use Rattle.console.proofs.ItemLaws.{taken-out, packet-out}
 
 -- a number that is read from the buffer is the number
@@ -50,7 +54,7 @@ over (y ∷ x) (z ∷ below) (suc k) d = over x below k d
 
 -- what a start's numbers stand over
 abbrev pub lowest : List ℤ
-lowest = pos 0 ∷ pos 0 ∷ pos 0 ∷ pos 0 ∷ pos 0 ∷ pos 0 ∷ pos 0 ∷ pos 0 ∷ pos 1 ∷ pos 0 ∷ pos 0 ∷ pos 0 ∷ []
+lowest = pos 0 ∷ pos 0 ∷ pos 0 ∷ pos 0 ∷ pos 0 ∷ pos 0 ∷ pos 0 ∷ pos 0 ∷ pos 1 ∷ pos 0 ∷ pos 0 ∷ pos 0 ∷ pos 0 ∷ []
 
 items-over : (m : Module) (w : Word) (x : List ℤ) → itemsTurn m w (x ++ drop (length x) lowest) ≡ itemsTurn m w x
 items-over m Start x =
@@ -67,6 +71,7 @@ items-over m Start x =
       over x lowest 9,
       over x lowest 10,
       over x lowest 11,
+      over x lowest 12,
     )
     refl
 items-over m Write x = rw (over x lowest 0, over x lowest 1, over x lowest 2) refl
@@ -106,20 +111,20 @@ no-items m Other x h = refl
 abbrev itemed : List ℕ
 itemed = 0 ∷ 2 ∷ 3 ∷ 4 ∷ 5 ∷ 6 ∷ 9 ∷ 10 ∷ 11 ∷ []
 
-pub with-items : (a b : ℕ) (m : Module) (w : Word) (rest : List ℕ) → OneOf itemed (tagOf Word-type.the-type w) → withItems m w rest ≡ wordTurn a b m w rest
-with-items a b m Start rest h = refl
-with-items a b m Open rest h = absurd (miss itemed 1 tt h)
-with-items a b m Write rest h = refl
-with-items a b m Commit rest h = refl
-with-items a b m Drop rest h = refl
-with-items a b m Hold rest h = refl
-with-items a b m Read rest h = refl
-with-items a b m Poll rest h = absurd (miss itemed 7 tt h)
-with-items a b m Block rest h = absurd (miss itemed 8 tt h)
-with-items a b m Reset rest h = refl
-with-items a b m Cards rest h = refl
-with-items a b m Help rest h = refl
-with-items a b m Other rest h = absurd (miss itemed 12 tt h)
+pub with-items : (a b c : ℕ) (m : Module) (w : Word) (rest : List ℕ) → OneOf itemed (tagOf Word-type.the-type w) → withItems m w rest ≡ wordTurn a b c m w rest
+with-items a b c m Start rest h = refl
+with-items a b c m Open rest h = absurd (miss itemed 1 tt h)
+with-items a b c m Write rest h = refl
+with-items a b c m Commit rest h = refl
+with-items a b c m Drop rest h = refl
+with-items a b c m Hold rest h = refl
+with-items a b c m Read rest h = refl
+with-items a b c m Poll rest h = absurd (miss itemed 7 tt h)
+with-items a b c m Block rest h = absurd (miss itemed 8 tt h)
+with-items a b c m Reset rest h = refl
+with-items a b c m Cards rest h = refl
+with-items a b c m Help rest h = refl
+with-items a b c m Other rest h = absurd (miss itemed 12 tt h)
 
 -- ---- a line with numbers and names alone, once they stand in a buffer
 module _ (m : Module) (w : Word) (rest : List ℕ) (r : Row) (b : List ℤ) (f : Filled r lowest b (rowOf (itemsOf w) rest)) where
@@ -180,30 +185,49 @@ module _ (m : Module) (room : ℕ) (text : List ℕ) (r : Row) (was : List ℤ) 
   whole-packet q = simp (packet-out r was b (rowOf bytes text) f, ← f .bytes, le-ltb (r .taken) (length text) q)
 
 -- ---- a line with samples
-module _ (b : ℕ) (m : Module) (v : List ℤ) (text : List ℕ) (s : Row) (was i : List ℤ) (g : Filled s was i (rowOf (samples b) text)) where
-  pub odd-current : s .taken < length text → unreadTurn m (sideStopped b (s .count) (drop (s .taken) text)) ≡ currentsTurn b m v text
-  unfolding currentsTurn
-  odd-current q = simp (← g .count, ← g .bytes, lt-ltb (s .taken) (length text) q)
+-- a slice, once its samples stand in a buffer
+module _ (room : ℕ) (text : List ℕ) (r : Row) (was b : List ℤ) (f : Filled r was b (rowOf (samples room) text)) where
+  pub slice-ends : barred (drop (r .taken) text) ≡ true → r .count ≤ length b → Ended (r .count) (r .taken + 2) room text b
+  slice-ends h l = record {
+    barred = ap (λ (n : ℕ). barred (drop n text)) (sym (f .bytes)) ∙ h;
+    values = taken-out r was b (rowOf (samples room) text) f;
+    behind = sym (drop-drop 2 (r .taken) text) ∙ ap (λ (n : ℕ). drop 2 (drop n text)) (f .bytes);
+    fits = l;
+    inside = omega (arith, begins-within (32 ∷ 124 ∷ []) (drop (r .taken) text) h, length-drop (r .taken) text);
+  }
 
-  pub whole-block : length text ≤ s .taken → steppedTurn (blockOf m v (take (s .count) i)) ≡ currentsTurn b m v text
-  unfolding currentsTurn
-  whole-block q = simp (taken-out s was i (rowOf (samples b) text) g, ← g .bytes, le-ltb (s .taken) (length text) q)
+  pub slice-stops : (why : Why) → barred (drop (r .taken) text) ≡ false → why ≡ sliceStopped room (r .count) (drop (r .taken) text) → Stopped why room text
+  slice-stops why h e = record {
+    unbarred = ap (λ (n : ℕ). barred (drop n text)) (sym (f .bytes)) ∙ h;
+    reason = e ∙ rw (f .count, f .bytes) refl;
+  }
 
-module _ (a b : ℕ) (m : Module) (rest : List ℕ) (r : Row) (was v : List ℤ) (f : Filled r was v (rowOf (samples a) rest)) where
-  pub no-bar : beginsWith (32 ∷ 124 ∷ []) (drop (r .taken) rest) ≡ false → unreadTurn m (sideStopped a (r .count) (drop (r .taken) rest)) ≡ withSamples a b m rest
-  unfolding withSamples
-  no-bar h = simp (← f .count, ← f .bytes, h)
+-- the turn that it makes
+module _ (room : ℕ) (m : Module) (text : List ℕ) (more : List ℤ → List ℕ → Turn) where
+  pub slice-more : (count at : ℕ) (b : List ℤ) → Ended count at room text b → more (take count b) (drop at text) ≡ sliceTurn room m text more
+  unfolding sliceTurn
+  slice-more count at b e = simp (e .values, e .behind, e .barred)
 
-  pub behind-bar : beginsWith (32 ∷ 124 ∷ []) (drop (r .taken) rest) ≡ true → currentsTurn b m (take (r .count) v) (drop 2 (drop (r .taken) rest)) ≡ withSamples a b m rest
-  unfolding withSamples
-  behind-bar h = simp (taken-out r was v (rowOf (samples a) rest) f, ← f .bytes, h)
+  pub slice-not : (why : Why) → Stopped why room text → unreadTurn m why ≡ sliceTurn room m text more
+  unfolding sliceTurn
+  slice-not why e = simp (e .reason, e .unbarred)
+
+-- S3 ends the line
+module _ (c : ℕ) (m : Module) (v s1 : List ℤ) (text : List ℕ) (r : Row) (was s3 : List ℤ) (f : Filled r was s3 (rowOf (samples c) text)) where
+  pub odd-sample : r .taken < length text → unreadTurn m (sliceStopped c (r .count) (drop (r .taken) text)) ≡ s3Turn c m v s1 text
+  unfolding s3Turn
+  odd-sample q = simp (← f .count, ← f .bytes, lt-ltb (r .taken) (length text) q)
+
+  pub whole-block : length text ≤ r .taken → steppedTurn (blockOf m v s1 (take (r .count) s3)) ≡ s3Turn c m v s1 text
+  unfolding s3Turn
+  whole-block q = simp (taken-out r was s3 (rowOf (samples c) text) f, ← f .bytes, le-ltb (r .taken) (length text) q)
 
 -- ---- a line
-module _ (a b : ℕ) (m : Module) (line : List ℕ) where
-  pub long-line : 131071 < length line → unreadTurn m TooLong ≡ turnOf a b m line
+module _ (a b c : ℕ) (m : Module) (line : List ℕ) where
+  pub long-line : 131071 < length line → unreadTurn m TooLong ≡ turnOf a b c m line
   unfolding turnOf
   long-line h = simp (lt-ltb 131071 (length line) h)
 
-  pub line-with : (w : Word) → wordOf (take (lengthTo 32 line) line) ≡ w → length line ≤ 131071 → wordTurn a b m w (drop (lengthTo 32 line) line) ≡ turnOf a b m line
+  pub line-with : (w : Word) → wordOf (take (lengthTo 32 line) line) ≡ w → length line ≤ 131071 → wordTurn a b c m w (drop (lengthTo 32 line) line) ≡ turnOf a b c m line
   unfolding turnOf
-  line-with w e h = simp (le-ltb 131071 (length line) h) (ap (λ (u : Word). wordTurn a b m u (drop (lengthTo 32 line) line)) (sym e))
+  line-with w e h = simp (le-ltb 131071 (length line) h) (ap (λ (u : Word). wordTurn a b c m u (drop (lengthTo 32 line) line)) (sym e))

@@ -44,9 +44,9 @@ use Rattle.console.specs.declared.unread.Why.the-variants as why
 use Rattle.console.specs.Texts.{beginsWith, lengthTo}
 use Rattle.console.specs.Words.{wordOf, itemsOf, enough}
 use Rattle.console.specs.Items.{nextOf, rowOf, samples, bytes, packetOf}
-use Rattle.console.specs.Unread.{stoppedBefore, sideStopped, packetStopped}
+use Rattle.console.specs.Unread.{stoppedBefore, sliceStopped, packetStopped}
 use Rattle.console.specs.Turns.{unreadTurn, saidOf, steppedTurn, heldTurn, polledSaid, polledTurn, begunBy, startedTurn, nth, itemsTurn, withItems, withText}
-use Rattle.console.specs.Turns.{packetTurn, behindRoom, withPacket, currentsTurn, withSamples, wordTurn, turnOf}
+use Rattle.console.specs.Turns.{packetTurn, behindRoom, withPacket, barred, sliceTurn, s3Turn, s1Turn, withSamples, wordTurn, turnOf}
 use Rattle.console.specs.Session.{lineTurn}
 use Rattle.console.specs.Unchanged.{ChangesNothing}
 
@@ -116,9 +116,9 @@ hold-kept m port = by (portAt port)
 abbrev taken : Module → Taken → List ℤ → Turn
 taken m r volts = steppedTurn (record { answer = r .answer; after = withMeter (r .after) (withWatch (both (r .watch) volts) m) })
 
-block-kept : (m : Module) (v i : List ℤ) → Keeps m (steppedTurn (blockOf m v i))
+block-kept : (m : Module) (v s1 s3 : List ℤ) → Keeps m (steppedTurn (blockOf m v s1 s3))
 unfolding blockOf meterBlock voltsOf
-block-kept m v i = by (blockDone (m .meter) (watchOf m) v i)
+block-kept m v s1 s3 = by (blockDone (m .meter) (watchOf m) v s1 s3)
   where
     by : (r : OrRefusal (Metering core × List Closed)) → Keeps m (taken m (answered (m .meter) (watchOf m) r) (voltsIn (watchOf m) r))
     by (refused n) e = refl
@@ -212,42 +212,44 @@ poll-line-kept m rest = by (nextOf kind.Room rest)
     by (next.Number room n) = packet-kept m _ (drop n rest)
     by next.Not = λ e. refl
 
-currents-kept : (b : ℕ) (m : Module) (v : List ℤ) (text : List ℕ) → Keeps m (currentsTurn b m v text)
-unfolding currentsTurn
-currents-kept b m v text =
-    let i = rowOf (samples b) text in
-    either m (ltb (i .bytes) (length text)) (unreadTurn m (sideStopped b (length (i .values)) (drop (i .bytes) text))) (steppedTurn (blockOf m v (i .values))) (λ e. refl)
-    (block-kept m v (i .values))
+s3-kept : (c : ℕ) (m : Module) (v s1 : List ℤ) (text : List ℕ) → Keeps m (s3Turn c m v s1 text)
+unfolding s3Turn
+s3-kept c m v s1 text =
+    let s3 = rowOf (samples c) text in
+    either m (ltb (s3 .bytes) (length text)) (unreadTurn m (sliceStopped c (length (s3 .values)) (drop (s3 .bytes) text))) (steppedTurn (blockOf m v s1 (s3 .values)))
+    (λ e. refl) (block-kept m v s1 (s3 .values))
 
-samples-kept : (a b : ℕ) (m : Module) (rest : List ℕ) → Keeps m (withSamples a b m rest)
-unfolding withSamples
-samples-kept a b m rest =
-    let v = rowOf (samples a) rest in
-    let behind = drop (v .bytes) rest in
-    either m (beginsWith (32 ∷ 124 ∷ []) behind) (currentsTurn b m (v .values) (drop 2 behind)) (unreadTurn m (sideStopped a (length (v .values)) behind))
-    (currents-kept b m (v .values) (drop 2 behind)) (λ e. refl)
+slice-kept : (room : ℕ) (m : Module) (text : List ℕ) (more : List ℤ → List ℕ → Turn) → ((x : List ℤ) (rest : List ℕ) → Keeps m (more x rest)) → Keeps m (sliceTurn room m text more)
+unfolding sliceTurn
+slice-kept room m text more h =
+    let row = rowOf (samples room) text in
+    let behind = drop (row .bytes) text in
+    either m (barred behind) (more (row .values) (drop 2 behind)) (unreadTurn m (sliceStopped room (length (row .values)) behind)) (h (row .values) (drop 2 behind)) (λ e. refl)
 
-word-kept : (a b : ℕ) (m : Module) (w : Word) (rest : List ℕ) → Keeps m (wordTurn a b m w rest)
-word-kept a b m word.Open rest = text-kept m rest
-word-kept a b m word.Poll rest = poll-line-kept m rest
-word-kept a b m word.Block rest = samples-kept a b m rest
-word-kept a b m word.Other rest = λ e. refl
-word-kept a b m word.Start rest = with-items-kept m word.Start rest
-word-kept a b m word.Write rest = with-items-kept m word.Write rest
-word-kept a b m word.Commit rest = with-items-kept m word.Commit rest
-word-kept a b m word.Drop rest = with-items-kept m word.Drop rest
-word-kept a b m word.Hold rest = with-items-kept m word.Hold rest
-word-kept a b m word.Read rest = with-items-kept m word.Read rest
-word-kept a b m word.Reset rest = with-items-kept m word.Reset rest
-word-kept a b m word.Cards rest = with-items-kept m word.Cards rest
-word-kept a b m word.Help rest = with-items-kept m word.Help rest
+samples-kept : (a b c : ℕ) (m : Module) (rest : List ℕ) → Keeps m (withSamples a b c m rest)
+samples-kept a b c m rest = slice-kept a m rest (s1Turn b c m) (λ v text. slice-kept b m text (s3Turn c m v) (λ s1 last. s3-kept c m v s1 last))
+
+word-kept : (a b c : ℕ) (m : Module) (w : Word) (rest : List ℕ) → Keeps m (wordTurn a b c m w rest)
+word-kept a b c m word.Open rest = text-kept m rest
+word-kept a b c m word.Poll rest = poll-line-kept m rest
+word-kept a b c m word.Block rest = samples-kept a b c m rest
+word-kept a b c m word.Other rest = λ e. refl
+word-kept a b c m word.Start rest = with-items-kept m word.Start rest
+word-kept a b c m word.Write rest = with-items-kept m word.Write rest
+word-kept a b c m word.Commit rest = with-items-kept m word.Commit rest
+word-kept a b c m word.Drop rest = with-items-kept m word.Drop rest
+word-kept a b c m word.Hold rest = with-items-kept m word.Hold rest
+word-kept a b c m word.Read rest = with-items-kept m word.Read rest
+word-kept a b c m word.Reset rest = with-items-kept m word.Reset rest
+word-kept a b c m word.Cards rest = with-items-kept m word.Cards rest
+word-kept a b c m word.Help rest = with-items-kept m word.Help rest
 
 line-kept : (m : Module) (line : List ℕ) → Keeps m (lineTurn m line)
 unfolding turnOf
 line-kept m line =
     let n = lengthTo 32 line in
-    either m (ltb 131071 (length line)) (unreadTurn m why.TooLong) (wordTurn 8192 8192 m (wordOf (take n line)) (drop n line)) (λ e. refl)
-    (word-kept 8192 8192 m (wordOf (take n line)) (drop n line))
+    either m (ltb 131071 (length line)) (unreadTurn m why.TooLong) (wordTurn 8192 8192 8192 m (wordOf (take n line)) (drop n line)) (λ e. refl)
+    (word-kept 8192 8192 8192 m (wordOf (take n line)) (drop n line))
 
 pub changes-nothing : ChangesNothing
 changes-nothing = record {

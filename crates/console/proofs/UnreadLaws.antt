@@ -8,7 +8,7 @@ use lib.Seq.{drop-cons}
 use borrow.Author.Tests.{eq-eqb, ne-eqb}
 use Rattle.console.specs.declared.words.Kind.{Kind}
 use Rattle.console.specs.declared.unread.Why.the-variants.{Missing, More, NoBar, TooMany, NotSample}
-use Rattle.console.specs.Unread.{notA, stoppedBefore, sideStopped}
+use Rattle.console.specs.Unread.{notA, stoppedBefore, sliceStopped}
 
 module _ (ks : List Kind) where
   pub stopped-missing : (behind : List ℕ) → length behind ≡ 0 → Missing ≡ stoppedBefore ks behind
@@ -27,17 +27,17 @@ module _ (ks : List Kind) where
   stopped-more count (c ∷ cs) h l = rw (drop-of-length-le ks) refl
 
 module _ (room count : ℕ) where
-  pub side-missing : (behind : List ℕ) → length behind ≡ 0 → NoBar ≡ sideStopped room count behind
-  unfolding sideStopped
-  side-missing [] e = refl
-  side-missing (c ∷ cs) e = absurd (omega arith)
+  pub slice-missing : (behind : List ℕ) → length behind ≡ 0 → NoBar ≡ sliceStopped room count behind
+  unfolding sliceStopped
+  slice-missing [] e = refl
+  slice-missing (c ∷ cs) e = absurd (omega arith)
 
-  pub side-full : (behind : List ℕ) → (length behind ≡ 0 → ⊥) → count ≡ room → TooMany ≡ sideStopped room count behind
-  unfolding sideStopped
-  side-full [] h e = absurd (h refl)
-  side-full (c ∷ cs) h e = simp (eq-eqb count room e)
+  pub slice-full : (behind : List ℕ) → (length behind ≡ 0 → ⊥) → count ≡ room → TooMany ≡ sliceStopped room count behind
+  unfolding sliceStopped
+  slice-full [] h e = absurd (h refl)
+  slice-full (c ∷ cs) h e = simp (eq-eqb count room e)
 
-  pub side-other : (behind : List ℕ) → (length behind ≡ 0 → ⊥) → (count ≡ room → ⊥) → NotSample ≡ sideStopped room count behind
-  unfolding sideStopped
-  side-other [] h e = absurd (h refl)
-  side-other (c ∷ cs) h e = simp (ne-eqb count room e)
+  pub slice-other : (behind : List ℕ) → (length behind ≡ 0 → ⊥) → (count ≡ room → ⊥) → NotSample ≡ sliceStopped room count behind
+  unfolding sliceStopped
+  slice-other [] h e = absurd (h refl)
+  slice-other (c ∷ cs) h e = simp (ne-eqb count room e)

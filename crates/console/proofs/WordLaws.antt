@@ -38,7 +38,9 @@ start-kind (suc (suc (suc (suc (suc (suc (suc (suc zero)))))))) = refl
 start-kind (suc (suc (suc (suc (suc (suc (suc (suc (suc zero))))))))) = refl
 start-kind (suc (suc (suc (suc (suc (suc (suc (suc (suc (suc zero)))))))))) = refl
 start-kind (suc (suc (suc (suc (suc (suc (suc (suc (suc (suc (suc zero))))))))))) = refl
-start-kind (suc (suc (suc (suc (suc (suc (suc (suc (suc (suc (suc (suc k)))))))))))) = rw (le-leb 2 (suc (suc (suc (suc (suc (suc (suc (suc (suc (suc (suc (suc k)))))))))))) (omega arith), le-ltb (suc (suc (suc (suc (suc (suc (suc (suc (suc (suc (suc (suc k)))))))))))) 8 (omega arith)) refl
+start-kind (suc (suc (suc (suc (suc (suc (suc (suc (suc (suc (suc (suc zero)))))))))))) = refl
+start-kind (suc (suc (suc (suc (suc (suc (suc (suc (suc (suc (suc (suc (suc k))))))))))))) =
+    rw (le-leb 2 (suc (suc (suc (suc (suc (suc (suc (suc (suc (suc (suc (suc (suc k))))))))))))) (omega arith), le-ltb (suc (suc (suc (suc (suc (suc (suc (suc (suc (suc (suc (suc (suc k))))))))))))) 8 (omega arith)) refl
 
 pub write-number : (k : ℕ) → k < 3 → (k ≡ 1 → ⊥) → getD (itemsOf Write) k kind.Number ≡ kind.Number
 unfolding itemsOf

@@ -48,9 +48,13 @@ okLine = ascii "ok" ++ end
 unfoldable pub valueLine : ℤ → List ℕ
 valueLine v = ascii "ok " ++ signedDecimal v ++ end
 
--- how many voltages and how many currents were clipped, a space before each
+-- a count, behind a space
+unfoldable pub countText : ℕ → List ℕ
+countText n = ascii " " ++ decimal n
+
+-- how many samples of V, of S1 and of S3 were clipped
 unfoldable pub clipsText : Clips → List ℕ
-clipsText clips = ascii " " ++ decimal (clips .v) ++ ascii " " ++ decimal (clips .i)
+clipsText clips = countText (clips .v) ++ countText (clips .s1) ++ countText (clips .s3)
 
 -- an alarm's word where it is set, else `-`
 abbrev pub alarmText : List ℕ → Bool → List ℕ
@@ -60,7 +64,7 @@ alarmText word set = cond set word (ascii "-")
 unfoldable pub alarmsText : Alarms → List ℕ
 alarmsText alarms = ascii " " ++ alarmText (ascii "SAG") (alarms .sag) ++ ascii " " ++ alarmText (ascii "SURGE") (alarms .surge)
 
--- ok NUMBER SERIAL CLIPPED_V CLIPPED_I SAG SURGE
+-- ok NUMBER SERIAL CLIPPED_V CLIPPED_S1 CLIPPED_S3 SAG SURGE
 unfoldable pub heldLine : ℕ → Serial → Clips → Alarms → List ℕ
 heldLine number serial clips alarms = ascii "ok " ++ decimal number ++ ascii " " ++ digitsText serial ++ clipsText clips ++ alarmsText alarms ++ end
 
@@ -84,16 +88,17 @@ cardsLine force waiting = ascii "ok " ++ cardText force ++ ascii " " ++ cardText
 -- the steps with their items
 unfoldable pub helpLines : List String
 helpLines =
-    "# start N B SLOT SLOT SLOT SLOT SLOT SLOT [W [VSAG [VSURGE [STICKY]]]]: N samples an interval, energy buckets of B, six registers to track or 0"
+    "# start N B SLOT SLOT SLOT SLOT SLOT SLOT [W [VSAG [VSURGE [STICKY [CONFIG]]]]]: N samples an interval, energy buckets of B, six registers to track or 0"
     ∷ "#   W samples in half a cycle, sag and surge levels or 0 (off), and the alarms that stay set: a mask as of reset; left out: 1 0 0 0"
+    ∷ "#   CONFIG, 0 to 255, makes the sources IA and IB of S1 and S3: 0x96 has IA S1 and IB S3; left out: 0, by which each is half of -S1 - S3"
     ∷ "# open PORT SERIAL: begins a card; ports are 0 and 1"
     ∷ "# write PORT FIELD VALUE: VOFFS IOFFS VGAIN IGAIN PHASE IRMSOFFS SQUELCH POFFS, or 1 to 8"
     ∷ "# commit PORT: the card is whole and waits for the next interval"
     ∷ "# drop PORT: the card is forgotten"
-    ∷ "# block VOLTAGES | CURRENTS: samples, at most 4,096 a side"
+    ∷ "# block V | S1 | S3: samples of the voltage and of the two current inputs, at most 4,096 a slice"
     ∷ "# reset MASK: clears alarms: 0x200000 sag, 0x200 surge, 0x200200 both"
-    ∷ "# hold PORT: keeps the last closed interval; answers its number, its card's serial, how many of its voltages and currents were clipped, and both alarms as they are now"
-    ∷ "# read PORT REGISTER: of what is held; a name (VA_RMS, WATT_A, PA_POS_CNT, MIN1 ..) or a byte address"
+    ∷ "# hold PORT: keeps the last closed interval; answers its number, its card's serial, how many of its samples of V, of S1 and of S3 were clipped, and both alarms as they are now"
+    ∷ "# read PORT REGISTER: of what is held; a name (VA_RMS, WATT_A, WATT_B, PA_POS_CNT, MIN1 ..) or a byte address"
     ∷ "# poll ROOM BYTES: a packet of the serial line, its bytes as two hexadecimal digits each; answers the reply's bytes; ROOM bytes are lent for it"
     ∷ "# cards: the serials of the card in force and of the one that waits"
     ∷ "# help: these lines"

@@ -26,9 +26,9 @@ unfoldable pub silent : List ℕ → Bool
 silent [] = true
 silent (c ∷ cs) = eqb c 35
 
--- a line comes to this: a block has room for 8,192 samples a side
+-- a line comes to this: a block has room for 8,192 samples a slice
 abbrev pub lineTurn : Module → List ℕ → Turn
-lineTurn m line = turnOf 8192 8192 m line
+lineTurn m line = turnOf 8192 8192 8192 m line
 
 -- a line ends: the module goes on, and the answer is said
 unfoldable pub ended : Talk → Talk
@@ -50,7 +50,7 @@ talked t (c ∷ cs) = talked (cond (eqb c 10) (ended t) (keeping t (c ∷ []))) 
 unfoldable pub fresh : Module
 fresh =
     let off = wordAddr (pos 0) in
-    startOf (pos 0) (pos 0) (off ∷ off ∷ off ∷ off ∷ off ∷ off ∷ []) (askedOf []) .after
+    startOf (pos 0) (pos 0) (off ∷ off ∷ off ∷ off ∷ off ∷ off ∷ []) (askedOf []) (pos 0) .after
 
 abbrev pub begin : Talk
 begin = record { state = fresh; kept = []; said = [] }
@@ -68,20 +68,22 @@ abbrev pub written : Session → Session
 written s = record { «module» = s .«module»; kept = s .kept; used = 0 }
 
 -- the bytes kept are in the line's buffer, and those of the answers in theirs, with room for so many more; and what the buffers hold
-pub record Ready (s : Session) (line out : List ℕ) (v i : List ℤ) (answers : ℕ) : Type 0 where
+pub record Ready (s : Session) (line out : List ℕ) (v s1 s3 : List ℤ) (answers : ℕ) : Type 0 where
   pub kept : s .kept ≤ length line
-  pub used : s .used + 1408 * answers ≤ length out
+  pub used : s .used + 1600 * answers ≤ length out
   pub line-room : length line ≡ 131073
   pub v-room : length v ≡ 8192
-  pub i-room : length i ≡ 8192
+  pub s1-room : length s1 ≡ 8192
+  pub s3-room : length s3 ≡ 8192
 
--- a read of 256 bytes ends at most so many lines, and no answer is longer than 1,408 bytes
-pub record Rooms (chunk line out : List ℕ) (v i : List ℤ) : Type 0 where
+-- a read of 256 bytes ends at most so many lines, and no answer is longer than 1,600 bytes
+pub record Rooms (chunk line out : List ℕ) (v s1 s3 : List ℤ) : Type 0 where
   pub chunk-room : length chunk ≡ 256
   pub line-room : length line ≡ 131073
-  pub out-room : length out ≡ 360448
+  pub out-room : length out ≡ 409600
   pub v-room : length v ≡ 8192
-  pub i-room : length i ≡ 8192
+  pub s1-room : length s1 ≡ 8192
+  pub s3-room : length s3 ≡ 8192
 
 -- ---- what is promised of it: in whatever reads the input comes, it is one talk, and answers that are written out in between are
 -- those that come first

@@ -1,6 +1,6 @@
 -- What a line comes to: the step that it is, handed to the module, and what is said of it.
 use Prim.Native.Nat.{ℕ, _-_}
-use mathlib.Core.Bool.{cond, _&&_}
+use mathlib.Core.Bool.{Bool, cond, _&&_}
 use mathlib.Core.List.{List, [], _∷_, _++_}
 use lib.Dec.{eqb, ltb}
 use lib.IntN.{ℤ, pos, natAbs}
@@ -36,7 +36,7 @@ use Rattle.console.specs.declared.turns.Turn.{Turn}
 use Rattle.console.specs.Texts.{beginsWith, lengthTo}
 use Rattle.console.specs.Items.{nextOf, rowOf, samples, bytes, packetOf}
 use Rattle.console.specs.Words.{wordOf, itemsOf, enough}
-use Rattle.console.specs.Unread.{stoppedBefore, sideStopped, packetStopped}
+use Rattle.console.specs.Unread.{stoppedBefore, sliceStopped, packetStopped}
 
 -- ---- what is said
 
@@ -133,7 +133,7 @@ startedTurn m s = plainly (saidOf (s .answer)) (begunBy (s .answer) (s .after) m
 abbrev pub nth : List ℤ → ℕ → ℤ
 nth x k = getD x k (pos 0)
 
--- what a start asks of its alarms; left out, 1 0 0 0
+-- what a start asks of its alarms; left out, 1 0 0 0. Behind it stands its configuration; left out, 0
 abbrev pub askedOf : List ℤ → Asked
 askedOf x = record { w = getD x 8 (pos 1); vsag = nth x 9; vsurge = nth x 10; sticky = nth x 11 }
 
@@ -142,7 +142,7 @@ startTurn m x =
     startedTurn m
     (startOf (nth x 0) (nth x 1)
     (wordAddr (nth x 2) ∷ wordAddr (nth x 3) ∷ wordAddr (nth x 4) ∷ wordAddr (nth x 5) ∷ wordAddr (nth x 6) ∷ wordAddr (nth x 7) ∷ [])
-    (askedOf x))
+    (askedOf x) (nth x 12))
 
 abbrev pub itemsTurn : Module → Word → List ℤ → Turn
 itemsTurn m word.Start x = startTurn m x
@@ -191,40 +191,54 @@ behindRoom m rest next.Not = unreadTurn m (stoppedBefore (itemsOf word.Poll) res
 unfoldable pub withPacket : Module → List ℕ → Turn
 withPacket m rest = behindRoom m rest (nextOf kind.Room rest)
 
--- ---- block: voltages, a bar (a space and 124), currents; at most a and b of them
-unfoldable pub currentsTurn : ℕ → Module → List ℤ → List ℕ → Turn
-currentsTurn b m v text =
-    let i = rowOf (samples b) text in
-    cond (ltb (i .bytes) (length text)) (unreadTurn m (sideStopped b (length (i .values)) (drop (i .bytes) text)))
-    (steppedTurn (blockOf m v (i .values)))
+-- ---- block: slices of V, S1 and S3 with a bar between two; at most a, b and c samples
+-- a bar is a space and 124
+abbrev pub barred : List ℕ → Bool
+barred text = beginsWith (32 ∷ 124 ∷ []) text
 
-unfoldable pub withSamples : ℕ → ℕ → Module → List ℕ → Turn
-withSamples a b m rest =
-    let v = rowOf (samples a) rest in
-    let behind = drop (v .bytes) rest in
-    cond (beginsWith (32 ∷ 124 ∷ []) behind) (currentsTurn b m (v .values) (drop 2 behind))
-    (unreadTurn m (sideStopped a (length (v .values)) behind))
+-- a slice with a bar behind it; its samples, and the text behind the bar, make the turn
+unfoldable pub sliceTurn : ℕ → Module → List ℕ → (List ℤ → List ℕ → Turn) → Turn
+sliceTurn room m text more =
+    let row = rowOf (samples room) text in
+    let behind = drop (row .bytes) text in
+    cond (barred behind) (more (row .values) (drop 2 behind))
+    (unreadTurn m (sliceStopped room (length (row .values)) behind))
+
+-- S3, which ends the line
+unfoldable pub s3Turn : ℕ → Module → List ℤ → List ℤ → List ℕ → Turn
+s3Turn c m v s1 text =
+    let s3 = rowOf (samples c) text in
+    cond (ltb (s3 .bytes) (length text)) (unreadTurn m (sliceStopped c (length (s3 .values)) (drop (s3 .bytes) text)))
+    (steppedTurn (blockOf m v s1 (s3 .values)))
+
+-- S1 with its bar, and S3
+abbrev pub s1Turn : ℕ → ℕ → Module → List ℤ → List ℕ → Turn
+s1Turn b c m v text = sliceTurn b m text (s3Turn c m v)
+
+-- V with its bar, and the rest
+abbrev pub withSamples : ℕ → ℕ → ℕ → Module → List ℕ → Turn
+withSamples a b c m rest = sliceTurn a m rest (s1Turn b c m)
 
 -- ---- a line
 
-abbrev pub wordTurn : ℕ → ℕ → Module → Word → List ℕ → Turn
-wordTurn a b m word.Open rest = withText m rest
-wordTurn a b m word.Poll rest = withPacket m rest
-wordTurn a b m word.Block rest = withSamples a b m rest
-wordTurn a b m word.Other rest = unreadTurn m why.NoStep
-wordTurn a b m word.Start rest = withItems m word.Start rest
-wordTurn a b m word.Write rest = withItems m word.Write rest
-wordTurn a b m word.Commit rest = withItems m word.Commit rest
-wordTurn a b m word.Drop rest = withItems m word.Drop rest
-wordTurn a b m word.Hold rest = withItems m word.Hold rest
-wordTurn a b m word.Read rest = withItems m word.Read rest
-wordTurn a b m word.Reset rest = withItems m word.Reset rest
-wordTurn a b m word.Cards rest = withItems m word.Cards rest
-wordTurn a b m word.Help rest = withItems m word.Help rest
+abbrev pub wordTurn : ℕ → ℕ → ℕ → Module → Word → List ℕ → Turn
+wordTurn a b c m word.Open rest = withText m rest
+wordTurn a b c m word.Poll rest = withPacket m rest
+wordTurn a b c m word.Block rest = withSamples a b c m rest
+wordTurn a b c m word.Other rest = unreadTurn m why.NoStep
+wordTurn a b c m word.Start rest = withItems m word.Start rest
+wordTurn a b c m word.Write rest = withItems m word.Write rest
+wordTurn a b c m word.Commit rest = withItems m word.Commit rest
+wordTurn a b c m word.Drop rest = withItems m word.Drop rest
+wordTurn a b c m word.Hold rest = withItems m word.Hold rest
+wordTurn a b c m word.Read rest = withItems m word.Read rest
+wordTurn a b c m word.Reset rest = withItems m word.Reset rest
+wordTurn a b c m word.Cards rest = withItems m word.Cards rest
+wordTurn a b c m word.Help rest = withItems m word.Help rest
 
 -- a line of more than 131,071 bytes is not read; its first item, up to a space (32), is the step's word
-unfoldable pub turnOf : ℕ → ℕ → Module → List ℕ → Turn
-turnOf a b m line =
+unfoldable pub turnOf : ℕ → ℕ → ℕ → Module → List ℕ → Turn
+turnOf a b c m line =
     let n = lengthTo 32 line in
     cond (ltb 131071 (length line)) (unreadTurn m why.TooLong)
-    (wordTurn a b m (wordOf (take n line)) (drop n line))
+    (wordTurn a b c m (wordOf (take n line)) (drop n line))

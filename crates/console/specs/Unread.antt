@@ -17,8 +17,8 @@ whyWords NotNumber = "not a 64-bit number"
 whyWords NotField = "neither a 64-bit number nor a field's name"
 whyWords NotRegister = "neither a 64-bit number nor a register's name"
 whyWords More = "more items than the step has"
-whyWords NoBar = "no bar between voltages and currents"
-whyWords TooMany = "more than 8,192 samples on a side"
+whyWords NoBar = "fewer than two bars"
+whyWords TooMany = "more than 8,192 samples in a slice"
 whyWords NotSample = "not a 32-bit number"
 whyWords NotRoom = "not a number from 0 to 255"
 whyWords NotByte = "not two hexadecimal digits"
@@ -40,10 +40,10 @@ stoppedBefore ks [] = Missing
 stoppedBefore [] (c ∷ cs) = More
 stoppedBefore (k ∷ ks) (c ∷ cs) = notA k
 
--- behind so many samples of a side, which has room for some, the line ends or has something else
-unfoldable pub sideStopped : ℕ → ℕ → List ℕ → Why
-sideStopped room count [] = NoBar
-sideStopped room count (c ∷ cs) = cond (eqb count room) TooMany NotSample
+-- behind so many samples of a slice, which has room for some, the line ends or has something else
+unfoldable pub sliceStopped : ℕ → ℕ → List ℕ → Why
+sliceStopped room count [] = NoBar
+sliceStopped room count (c ∷ cs) = cond (eqb count room) TooMany NotSample
 
 -- behind so many bytes of a packet the line has another item
 abbrev pub packetStopped : ℕ → Why

@@ -38,9 +38,13 @@ firstOf (w ∷ ws) item = cond (sameText (lettersOf w) item) w (firstOf ws item)
 unfoldable pub wordOf : List ℕ → Word
 wordOf item = firstOf words item
 
+-- the most items that a step has
+abbrev pub most : ℕ
+most = 13
+
 -- what stands behind it, item by item; an open has its text besides, a poll its bytes, and a block its samples
 unfoldable pub itemsOf : Word → List Kind
-itemsOf Start = Number ∷ Number ∷ Slot ∷ Slot ∷ Slot ∷ Slot ∷ Slot ∷ Slot ∷ Number ∷ Number ∷ Number ∷ Number ∷ []
+itemsOf Start = Number ∷ Number ∷ Slot ∷ Slot ∷ Slot ∷ Slot ∷ Slot ∷ Slot ∷ Number ∷ Number ∷ Number ∷ Number ∷ Number ∷ []
 itemsOf Open = Number ∷ []
 itemsOf Write = Number ∷ Field ∷ Number ∷ []
 itemsOf Commit = Number ∷ []
@@ -54,6 +58,6 @@ itemsOf Cards = []
 itemsOf Help = []
 itemsOf Other = []
 
--- so many of them are enough: all, or eight, for a start's last four may be left out
+-- so many of them are enough: all, or eight, for a start's last five may be left out
 abbrev pub enough : Word → ℕ → Bool
 enough w count = leb (length (itemsOf w)) count || leb 8 count

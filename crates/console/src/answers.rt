@@ -6,7 +6,7 @@ ghost use lib.ListN.{length, take};
 ghost use Rattle.serial.specs.Ascii.{ascii};
 ghost use Rattle.console.specs.Unread.{whyWords};
 ghost use Rattle.console.specs.Inside.{placeOf};
-ghost use Rattle.console.specs.Answers.{unreadLine, refusedLine, valueLine, clipsText, alarmText, alarmsText, heldLine, replyLine};
+ghost use Rattle.console.specs.Answers.{unreadLine, refusedLine, valueLine, countText, clipsText, alarmText, alarmsText, heldLine, replyLine};
 ghost use Rattle.console.specs.Answers.{cardsLine, helpText, toldText};
 use super::output::put;
 use super::output::put_bytes;
@@ -22,18 +22,19 @@ use alarm::Alarms;
 use sample::Clips;
 use serial::Serial;
 
-const HELP: [u8; 1366] = *b"\
-    # start N B SLOT SLOT SLOT SLOT SLOT SLOT [W [VSAG [VSURGE [STICKY]]]]: N samples an interval, energy buckets of B, six registers to track or 0\n\
+const HELP: [u8; 1566] = *b"\
+    # start N B SLOT SLOT SLOT SLOT SLOT SLOT [W [VSAG [VSURGE [STICKY [CONFIG]]]]]: N samples an interval, energy buckets of B, six registers to track or 0\n\
     #   W samples in half a cycle, sag and surge levels or 0 (off), and the alarms that stay set: a mask as of reset; left out: 1 0 0 0\n\
+    #   CONFIG, 0 to 255, makes the sources IA and IB of S1 and S3: 0x96 has IA S1 and IB S3; left out: 0, by which each is half of -S1 - S3\n\
     # open PORT SERIAL: begins a card; ports are 0 and 1\n\
     # write PORT FIELD VALUE: VOFFS IOFFS VGAIN IGAIN PHASE IRMSOFFS SQUELCH POFFS, or 1 to 8\n\
     # commit PORT: the card is whole and waits for the next interval\n\
     # drop PORT: the card is forgotten\n\
-    # block VOLTAGES | CURRENTS: samples, at most 4,096 a side\n\
+    # block V | S1 | S3: samples of the voltage and of the two current inputs, at most 4,096 a slice\n\
     # reset MASK: clears alarms: 0x200000 sag, 0x200 surge, 0x200200 both\n\
     # hold PORT: keeps the last closed interval; answers its number, its card's serial, \
-    how many of its voltages and currents were clipped, and both alarms as they are now\n\
-    # read PORT REGISTER: of what is held; a name (VA_RMS, WATT_A, PA_POS_CNT, MIN1 ..) or a byte address\n\
+    how many of its samples of V, of S1 and of S3 were clipped, and both alarms as they are now\n\
+    # read PORT REGISTER: of what is held; a name (VA_RMS, WATT_A, WATT_B, PA_POS_CNT, MIN1 ..) or a byte address\n\
     # poll ROOM BYTES: a packet of the serial line, its bytes as two hexadecimal digits each; answers the reply's bytes; ROOM bytes are lent for it\n\
     # cards: the serials of the card in force and of the one that waits\n\
     # help: these lines\n\
@@ -49,8 +50,8 @@ const WHYS: [u8; 624] = *b"\
     neither a 64-bit number nor a field's name      \
     neither a 64-bit number nor a register's name   \
     more items than the step has                    \
-    no bar between voltages and currents            \
-    more than 8,192 samples on a side               \
+    fewer than two bars                             \
+    more than 8,192 samples in a slice              \
     not a 32-bit number                             \
     not a number from 0 to 255                      \
     not two hexadecimal digits                      \
@@ -74,8 +75,8 @@ fn place_of(why: Why) -> Place
         Why::NotField => Place { from: 192, to: 234 },
         Why::NotRegister => Place { from: 240, to: 285 },
         Why::More => Place { from: 288, to: 316 },
-        Why::NoBar => Place { from: 336, to: 372 },
-        Why::TooMany => Place { from: 384, to: 417 },
+        Why::NoBar => Place { from: 336, to: 355 },
+        Why::TooMany => Place { from: 384, to: 418 },
         Why::NotSample => Place { from: 432, to: 451 },
         Why::NotRoom => Place { from: 480, to: 506 },
         Why::NotByte => Place { from: 528, to: 554 },
@@ -124,15 +125,23 @@ fn value_line(out: &mut [u8], used: usize, v: i64) -> usize
     put(out, b, b"\n")
 }
 
-// How many voltages and how many currents were clipped, a space before each.
-fn put_clips(out: &mut [u8], used: usize, clips: Clips) -> usize
-    requires { ⌜ used + 42 ≤ length (now out) ⌝ }
-    ensures { λ r. ⌜ (take r (now (out .exit)) ≡ take used (now (out .entry)) ++ clipsText clips) × (r ≤ used + 42) ⌝ }
+// A count, behind a space.
+fn put_count(out: &mut [u8], used: usize, count: u32) -> usize
+    requires { ⌜ used + 21 ≤ length (now out) ⌝ }
+    ensures { λ r. ⌜ (take r (now (out .exit)) ≡ take used (now (out .entry)) ++ countText count) × (r ≤ used + 21) ⌝ }
 {
     let a = put(out, used, b" ");
-    let b = put_number(out, a, clips.v as i64);
-    let c = put(out, b, b" ");
-    put_number(out, c, clips.i as i64)
+    put_number(out, a, count as i64)
+}
+
+// How many samples of V, of S1 and of S3 were clipped.
+fn put_clips(out: &mut [u8], used: usize, clips: Clips) -> usize
+    requires { ⌜ used + 63 ≤ length (now out) ⌝ }
+    ensures { λ r. ⌜ (take r (now (out .exit)) ≡ take used (now (out .entry)) ++ clipsText clips) × (r ≤ used + 63) ⌝ }
+{
+    let a = put_count(out, used, clips.v);
+    let b = put_count(out, a, clips.s1);
+    put_count(out, b, clips.s3)
 }
 
 // An alarm's word where it is set, else `-`.
@@ -166,8 +175,8 @@ fn held_line(
     clips: Clips,
     alarms: Alarms,
 ) -> usize
-    requires { ⌜ used + 96 ≤ length (now out) ⌝ }
-    ensures { λ r. ⌜ (take r (now (out .exit)) ≡ take used (now (out .entry)) ++ heldLine number serial clips alarms) × (r ≤ used + 96) ⌝ }
+    requires { ⌜ used + 112 ≤ length (now out) ⌝ }
+    ensures { λ r. ⌜ (take r (now (out .exit)) ≡ take used (now (out .entry)) ++ heldLine number serial clips alarms) × (r ≤ used + 112) ⌝ }
 {
     let a = put(out, used, b"ok ");
     let b = put_number(out, a, number as i64);
@@ -210,8 +219,8 @@ fn cards_line(out: &mut [u8], used: usize, force: Serial, waiting: Serial) -> us
 }
 
 fn help_lines(out: &mut [u8], used: usize) -> usize
-    requires { ⌜ used + 1408 ≤ length (now out) ⌝ }
-    ensures { λ r. ⌜ (take r (now (out .exit)) ≡ take used (now (out .entry)) ++ helpText) × (r ≤ used + 1408) ⌝ }
+    requires { ⌜ used + 1600 ≤ length (now out) ⌝ }
+    ensures { λ r. ⌜ (take r (now (out .exit)) ≡ take used (now (out .entry)) ++ helpText) × (r ≤ used + 1600) ⌝ }
 {
     let help = HELP;
     put(out, used, &help)
@@ -219,8 +228,8 @@ fn help_lines(out: &mut [u8], used: usize) -> usize
 
 // What is said, behind the bytes that are used.
 pub(super) fn put_answer(out: &mut [u8], used: usize, t: Told) -> usize
-    requires { ⌜ used + 1408 ≤ length (now out) ⌝ }
-    ensures { λ r. ⌜ (take r (now (out .exit)) ≡ take used (now (out .entry)) ++ toldText t) × (r ≤ used + 1408) ⌝ }
+    requires { ⌜ used + 1600 ≤ length (now out) ⌝ }
+    ensures { λ r. ⌜ (take r (now (out .exit)) ≡ take used (now (out .entry)) ++ toldText t) × (r ≤ used + 1600) ⌝ }
 {
     let said = t.said;
     let serial = t.serial;

@@ -39,7 +39,7 @@ fn begun() -> More
         vsurge: 0,
         sticky: 0,
     };
-    let s = Module::start(0, 0, [off; 6], lowest);
+    let s = Module::start(0, 0, [off; 6], lowest, 0);
     let module = s.after;
     let session = Session {
         module,
@@ -78,10 +78,17 @@ fn is_silent(line: &[u8]) -> bool
 }
 
 // At a line's end.
-fn end_line(mut s: Session, line: &[u8], v: &mut [i32], i: &mut [i32], out: &mut [u8]) -> Session
-    requires { ⌜ Ready s (now line) (now out) (now v) (now i) 1 ⌝ }
+fn end_line(
+    mut s: Session,
+    line: &[u8],
+    v: &mut [i32],
+    s1: &mut [i32],
+    s3: &mut [i32],
+    out: &mut [u8],
+) -> Session
+    requires { ⌜ Ready s (now line) (now out) (now v) (now s1) (now s3) 1 ⌝ }
     ensures { λ r. ⌜ talkOf r (now (line .entry)) (now (out .exit)) ≡ ended (talkOf s (now (line .entry)) (now (out .entry))) ⌝ }
-    ensures { λ r. ⌜ (r .kept ≡ 0) × (r .used ≤ s .used + 1408) ⌝ }
+    ensures { λ r. ⌜ (r .kept ≡ 0) × (r .used ≤ s .used + 1600) ⌝ }
 {
     let kept = s.kept;
     s.kept = 0;
@@ -89,7 +96,7 @@ fn end_line(mut s: Session, line: &[u8], v: &mut [i32], i: &mut [i32], out: &mut
     if is_silent(&line[..n]) {
         return s;
     }
-    let t = take_line(s.module, &line[..n], v, i);
+    let t = take_line(s.module, &line[..n], v, s1, s3);
     let told = t.told;
     let used = put_answer(out, s.used, told);
     s.used = used;
@@ -104,10 +111,11 @@ fn take_part(
     part: &[u8],
     line: &mut [u8],
     v: &mut [i32],
-    i: &mut [i32],
+    s1: &mut [i32],
+    s3: &mut [i32],
     out: &mut [u8],
 ) -> Session
-    requires { ⌜ Ready s (now line) (now out) (now v) (now i) (length (now part)) ⌝ }
+    requires { ⌜ Ready s (now line) (now out) (now v) (now s1) (now s3) (length (now part)) ⌝ }
     ensures { λ r. ⌜ talkOf r (now (line .exit)) (now (out .exit)) ≡ talked (talkOf s (now (line .entry)) (now (out .entry))) (now (part .entry)) ⌝ }
     ensures { λ r. ⌜ (r .kept ≤ 131073) × (r .used ≤ length (now (out .exit))) ⌝ }
 {
@@ -119,7 +127,7 @@ fn take_part(
         s.kept = kept;
         at = e;
         if at < part.len() {
-            s = end_line(s, line, v, i, out);
+            s = end_line(s, line, v, s1, s3, out);
             at += 1;
         }
     }
@@ -161,11 +169,12 @@ fn read_some(
     chunk: &mut [u8],
     line: &mut [u8],
     v: &mut [i32],
-    i: &mut [i32],
+    s1: &mut [i32],
+    s3: &mut [i32],
     out: &mut [u8],
 ) -> More
-    requires { ⌜ Ready s (now line) (now out) (now v) (now i) (length (now chunk)) ⌝ }
-    ensures { λ r. ⌜ Ready (r .session) (now (line .exit)) (now (out .exit)) (now (v .exit)) (now (i .exit)) (length (now (chunk .exit))) ⌝ }
+    requires { ⌜ Ready s (now line) (now out) (now v) (now s1) (now s3) (length (now chunk)) ⌝ }
+    ensures { λ r. ⌜ Ready (r .session) (now (line .exit)) (now (out .exit)) (now (v .exit)) (now (s1 .exit)) (now (s3 .exit)) (length (now (chunk .exit))) ⌝ }
 {
     let got = libc::read(STDIN_FILENO, chunk);
     tell_failure(got);
@@ -176,31 +185,45 @@ fn read_some(
             more: false,
         };
     }
-    s = take_part(s, &chunk[..n], line, v, i, out);
+    s = take_part(s, &chunk[..n], line, v, s1, s3, out);
     write_out(s, out)
 }
 
 // A last line may lack its line feed.
-fn end_input(mut s: Session, line: &[u8], v: &mut [i32], i: &mut [i32], out: &mut [u8])
-    requires { ⌜ Ready s (now line) (now out) (now v) (now i) 1 ⌝ }
+fn end_input(
+    mut s: Session,
+    line: &[u8],
+    v: &mut [i32],
+    s1: &mut [i32],
+    s3: &mut [i32],
+    out: &mut [u8],
+)
+    requires { ⌜ Ready s (now line) (now out) (now v) (now s1) (now s3) 1 ⌝ }
 {
-    s = end_line(s, line, v, i, out);
+    s = end_line(s, line, v, s1, s3, out);
     write_out(s, out);
 }
 
 // Reads to the end of the input. Nothing says that there is one, so the turns are counted down, from a number that no run uses up.
-pub(super) fn run(chunk: &mut [u8], line: &mut [u8], v: &mut [i32], i: &mut [i32], out: &mut [u8])
-    requires { ⌜ Rooms (now chunk) (now line) (now out) (now v) (now i) ⌝ }
+pub(super) fn run(
+    chunk: &mut [u8],
+    line: &mut [u8],
+    v: &mut [i32],
+    s1: &mut [i32],
+    s3: &mut [i32],
+    out: &mut [u8],
+)
+    requires { ⌜ Rooms (now chunk) (now line) (now out) (now v) (now s1) (now s3) ⌝ }
 {
     let mut m = begun();
     let mut turns = u64::MAX;
     while turns > 0 {
-        m = read_some(m.session, chunk, line, v, i, out);
+        m = read_some(m.session, chunk, line, v, s1, s3, out);
         if m.more {
             turns -= 1;
         } else {
             turns = 0;
         }
     }
-    end_input(m.session, line, v, i, out);
+    end_input(m.session, line, v, s1, s3, out);
 }

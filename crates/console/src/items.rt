@@ -3,7 +3,7 @@ ghost use mathlib.Core.Path.{_≡_};
 ghost use Prim.Native.Nat.{_≤_};
 ghost use lib.ListN.{length};
 ghost use Rattle.console.specs.Items.{ownNumber, byteAddress, between, worthIn, nextOf, rowOf, samples, bytes, Filled, FilledBytes};
-ghost use Rattle.console.specs.Words.{itemsOf};
+ghost use Rattle.console.specs.Words.{most, itemsOf};
 use super::numerals::Number;
 use super::numerals::pair;
 use super::numerals::value;
@@ -100,7 +100,7 @@ pub(super) fn next_item(k: Kind, text: &[u8]) -> Next
 
 // Takes the items of a step into a lent buffer, until another thing comes or the step has no more.
 pub(super) fn take_items(w: Word, text: &[u8], into: &mut [i64]) -> Row
-    requires { ⌜ 12 ≤ length (now into) ⌝ }
+    requires { ⌜ most ≤ length (now into) ⌝ }
     ensures { λ r. ⌜ Filled r (now (into .entry)) (now (into .exit)) (rowOf (itemsOf w) (now (text .entry))) ⌝ }
 {
     let most = arity(w);

@@ -4,6 +4,7 @@ mod input;
 mod items;
 mod numerals;
 mod output;
+mod slices;
 mod texts;
 mod turns;
 mod unread;
@@ -13,7 +14,8 @@ fn main() {
     let mut chunk = [0u8; 256];
     let mut line = [0u8; 131073];
     let mut v = [0i32; 8192];
-    let mut i = [0i32; 8192];
-    let mut out = [0u8; 360448];
-    input::run(&mut chunk, &mut line, &mut v, &mut i, &mut out);
+    let mut s1 = [0i32; 8192];
+    let mut s3 = [0i32; 8192];
+    let mut out = [0u8; 409600];
+    input::run(&mut chunk, &mut line, &mut v, &mut s1, &mut s3, &mut out);
 }

@@ -7,19 +7,22 @@ ghost use Rattle.aberzhan.specs.Module.{holdOf, readOf};
 ghost use Rattle.console.specs.Inside.{slotsOf};
 ghost use Rattle.console.specs.Turns.{noReply, barely, plainly, unreadTurn, saidOf, steppedTurn, heldSaid, heldTurn, readSaid, readTurn, cardsTurn};
 ghost use Rattle.console.specs.Turns.{polledSaid, polledTurn, packetTurn, withPacket};
-ghost use Rattle.console.specs.Turns.{startedTurn, askedOf, startTurn, itemsTurn, withItems, withText, currentsTurn, withSamples, turnOf};
+ghost use Rattle.console.specs.Turns.{startedTurn, askedOf, startTurn, itemsTurn, withItems, withText, s3Turn, s1Turn, withSamples, turnOf};
 use super::items::Next;
 use super::items::next_item;
 use super::items::take_bytes;
 use super::items::take_items;
 use super::items::take_samples;
+use super::slices::Slice;
+use super::slices::take_slice;
 use super::texts::begins;
 use super::texts::length_to;
 use super::unread::Why;
 use super::unread::packet_stopped;
-use super::unread::side_stopped;
+use super::unread::slice_stopped;
 use super::unread::stopped;
 use super::words::Kind;
+use super::words::MOST;
 use super::words::Word;
 use super::words::are_enough;
 use super::words::first_word;
@@ -90,7 +93,7 @@ fn bare(said: Said) -> Told
         said,
         number: 0,
         serial: none,
-        clips: Clips { v: 0, i: 0 },
+        clips: Clips::unclipped(),
         alarms: Alarms {
             sag: false,
             surge: false,
@@ -226,7 +229,7 @@ fn started(m: Module, s: Stepped) -> Turn
 }
 
 // The words that a start tracks.
-fn slots(x: [i64; 12]) -> [WordAddr; 6]
+fn slots(x: [i64; MOST]) -> [WordAddr; 6]
     ensures { λ r. ⌜ r ≡ slotsOf x ⌝ }
 {
     let a = word_addr(x[2]);
@@ -239,7 +242,7 @@ fn slots(x: [i64; 12]) -> [WordAddr; 6]
 }
 
 // What it asks of its alarms.
-fn asked(x: [i64; 12]) -> Asked
+fn asked(x: [i64; MOST]) -> Asked
     ensures { λ r. ⌜ r ≡ askedOf x ⌝ }
 {
     Asked {
@@ -250,14 +253,14 @@ fn asked(x: [i64; 12]) -> Asked
     }
 }
 
-fn start(m: Module, x: [i64; 12]) -> Turn
+fn start(m: Module, x: [i64; MOST]) -> Turn
     ensures { λ r. ⌜ r ≡ startTurn m x ⌝ }
 {
-    started(m, Module::start(x[0], x[1], slots(x), asked(x)))
+    started(m, Module::start(x[0], x[1], slots(x), asked(x), x[12]))
 }
 
 // A step whose items are worth these numbers.
-fn with_worths(m: Module, w: Word, x: [i64; 12]) -> Turn
+fn with_worths(m: Module, w: Word, x: [i64; MOST]) -> Turn
     ensures { λ r. ⌜ r ≡ itemsTurn m w x ⌝ }
 {
     match w {
@@ -278,7 +281,7 @@ fn with_worths(m: Module, w: Word, x: [i64; 12]) -> Turn
 fn with_items(m: Module, w: Word, rest: &[u8]) -> Turn
     ensures { λ r. ⌜ r ≡ withItems m w (now (rest .entry)) ⌝ }
 {
-    let mut x = [0i64; 12];
+    let mut x = [0i64; MOST];
     x[8] = 1;
     let n = take_items(w, rest, &mut x);
     let at = n.taken;
@@ -293,7 +296,7 @@ fn with_items(m: Module, w: Word, rest: &[u8]) -> Turn
 fn with_text(m: Module, rest: &[u8]) -> Turn
     ensures { λ r. ⌜ r ≡ withText m (now (rest .entry)) ⌝ }
 {
-    let mut x = [0i64; 12];
+    let mut x = [0i64; MOST];
     let n = take_items(Word::Open, rest, &mut x);
     let at = n.taken;
     let behind = &rest[at..];
@@ -331,36 +334,48 @@ fn with_packet(m: Module, rest: &[u8]) -> Turn
     }
 }
 
-// The currents, behind the bar.
-fn with_currents(m: Module, v: &[i32], text: &[u8], i: &mut [i32]) -> Turn
-    ensures { λ r. ⌜ r ≡ currentsTurn (length (now (i .entry))) m (now (v .entry)) (now (text .entry)) ⌝ }
+// S3, behind the second bar.
+fn with_s3(m: Module, v: &[i32], s1: &[i32], text: &[u8], s3: &mut [i32]) -> Turn
+    ensures { λ r. ⌜ r ≡ s3Turn (length (now (s3 .entry))) m (now (v .entry)) (now (s1 .entry)) (now (text .entry)) ⌝ }
 {
-    let n = take_samples(text, i);
+    let n = take_samples(text, s3);
     let at = n.taken;
     let count = n.count;
     if at < text.len() {
-        return unread(m, side_stopped(i.len(), count, &text[at..]));
+        return unread(m, slice_stopped(s3.len(), count, &text[at..]));
     }
-    stepped(m.block(v, &i[..count]))
+    stepped(m.block(v, s1, &s3[..count]))
 }
 
-// Voltages, a bar, currents.
-fn with_samples(m: Module, rest: &[u8], v: &mut [i32], i: &mut [i32]) -> Turn
-    ensures { λ r. ⌜ r ≡ withSamples (length (now (v .entry))) (length (now (i .entry))) m (now (rest .entry)) ⌝ }
+// S1, behind the first bar.
+fn with_s1(m: Module, v: &[i32], text: &[u8], s1: &mut [i32], s3: &mut [i32]) -> Turn
+    ensures { λ r. ⌜ r ≡ s1Turn (length (now (s1 .entry))) (length (now (s3 .entry))) m (now (v .entry)) (now (text .entry)) ⌝ }
 {
-    let n = take_samples(rest, v);
-    let at = n.taken;
-    let count = n.count;
-    let behind = &rest[at..];
-    if begins(behind, b" |") {
-        return with_currents(m, &v[..count], &behind[2..], i);
+    match take_slice(text, s1) {
+        Slice::Ends(count, at) => with_s3(m, v, &s1[..count], &text[at..], s3),
+        Slice::Stops(why) => unread(m, why),
     }
-    unread(m, side_stopped(v.len(), count, behind))
 }
 
-// A line that is neither empty nor a comment. Its samples go by way of two lent buffers, which have room for as many as a line may have.
-pub(super) fn take_line(m: Module, line: &[u8], v: &mut [i32], i: &mut [i32]) -> Turn
-    ensures { λ r. ⌜ r ≡ turnOf (length (now (v .entry))) (length (now (i .entry))) m (now (line .entry)) ⌝ }
+// V, a bar, S1, a bar, S3.
+fn with_samples(m: Module, rest: &[u8], v: &mut [i32], s1: &mut [i32], s3: &mut [i32]) -> Turn
+    ensures { λ r. ⌜ r ≡ withSamples (length (now (v .entry))) (length (now (s1 .entry))) (length (now (s3 .entry))) m (now (rest .entry)) ⌝ }
+{
+    match take_slice(rest, v) {
+        Slice::Ends(count, at) => with_s1(m, &v[..count], &rest[at..], s1, s3),
+        Slice::Stops(why) => unread(m, why),
+    }
+}
+
+// A line that is neither empty nor a comment. Its samples go by way of three lent buffers, which have room for as many as a line may have.
+pub(super) fn take_line(
+    m: Module,
+    line: &[u8],
+    v: &mut [i32],
+    s1: &mut [i32],
+    s3: &mut [i32],
+) -> Turn
+    ensures { λ r. ⌜ r ≡ turnOf (length (now (v .entry))) (length (now (s1 .entry))) (length (now (s3 .entry))) m (now (line .entry)) ⌝ }
 {
     if LONGEST < line.len() {
         return unread(m, Why::TooLong);
@@ -371,7 +386,7 @@ pub(super) fn take_line(m: Module, line: &[u8], v: &mut [i32], i: &mut [i32]) ->
     match w {
         Word::Open => with_text(m, rest),
         Word::Poll => with_packet(m, rest),
-        Word::Block => with_samples(m, rest, v, i),
+        Word::Block => with_samples(m, rest, v, s1, s3),
         Word::Other => unread(m, Why::NoStep),
         _ => with_items(m, w, rest),
     }

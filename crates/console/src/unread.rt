@@ -1,7 +1,7 @@
 // Why a line is not read.
 ghost use mathlib.Core.Path.{_≡_};
 ghost use lib.ListN.{drop};
-ghost use Rattle.console.specs.Unread.{notA, stoppedBefore, sideStopped, packetStopped};
+ghost use Rattle.console.specs.Unread.{notA, stoppedBefore, sliceStopped, packetStopped};
 ghost use Rattle.console.specs.Words.{itemsOf};
 use super::words::Kind;
 use super::words::Word;
@@ -52,9 +52,9 @@ pub(super) fn stopped(w: Word, count: usize, behind: &[u8]) -> Why
     Why::More
 }
 
-// Behind `count` samples of a side, which has room for so many, the line has neither a sample nor what ends the side.
-pub(super) fn side_stopped(room: usize, count: usize, behind: &[u8]) -> Why
-    ensures { λ r. ⌜ r ≡ sideStopped room count (now (behind .entry)) ⌝ }
+// Behind `count` samples of a slice, which has room for so many, the line has neither a sample nor what ends the slice.
+pub(super) fn slice_stopped(room: usize, count: usize, behind: &[u8]) -> Why
+    ensures { λ r. ⌜ r ≡ sliceStopped room count (now (behind .entry)) ⌝ }
 {
     if behind.len() == 0 {
         return Why::NoBar;

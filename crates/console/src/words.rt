@@ -3,7 +3,7 @@ ghost use mathlib.Core.Path.{_≡_};
 ghost use Prim.Native.Nat.{_≤_, _<_};
 ghost use lib.ListN.{length, drop, getD};
 ghost use Rattle.console.specs.declared.words.Kind.the-variants as «kind»;
-ghost use Rattle.console.specs.Words.{words, firstOf, wordOf, itemsOf, enough};
+ghost use Rattle.console.specs.Words.{words, firstOf, wordOf, most, itemsOf, enough};
 use serial::same_text;
 
 pub enum Word {
@@ -82,12 +82,15 @@ fn later_word(item: &[u8]) -> Word
     Word::Other
 }
 
+// The most items that a step has.
+pub(super) const MOST: usize = 13;
+
 // How many items follow it, but for the text of an open, the bytes of a poll and the samples of a block.
 pub(super) fn arity(w: Word) -> usize
-    ensures { λ r. ⌜ (r ≡ length (itemsOf w)) × (r ≤ 12) ⌝ }
+    ensures { λ r. ⌜ (r ≡ length (itemsOf w)) × (r ≤ most) ⌝ }
 {
     match w {
-        Word::Start => 12,
+        Word::Start => MOST,
         Word::Open => 1,
         Word::Write => 3,
         Word::Commit => 1,
@@ -103,7 +106,7 @@ pub(super) fn arity(w: Word) -> usize
     }
 }
 
-// Whether so many of them are enough: a start's last four may be left out.
+// Whether so many of them are enough: a start's last five may be left out.
 pub(super) fn are_enough(w: Word, count: usize) -> bool
     ensures { λ r. ⌜ r ≡ enough w count ⌝ }
 {

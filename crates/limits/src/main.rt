@@ -1,5 +1,5 @@
-// Runs what document 01 lists under "Run by a program", and the W of change request A3: each limit, and one past it. Prints a line for each with
-// the answer.
+// Runs what document 01 lists under "Run by a program", the W of change request A3 and the configuration of A5: each limit, and one past it.
+// Prints a line for each with the answer.
 use aberzhan::Module;
 use aberzhan::Stepped;
 use address::WordAddr;
@@ -60,7 +60,7 @@ fn open(m: Module, serial: &[u8]) {
 
 // 12 digits taken, 13 refused.
 fn serials() {
-    let s = Module::start(1, 1, off(), half_cycle(1));
+    let s = Module::start(1, 1, off(), half_cycle(1), 0);
     say(b"SERIAL OF 12 DIGITS ");
     open(s.after, b"012345678901");
     say(b"SERIAL OF 13 DIGITS ");
@@ -70,20 +70,30 @@ fn serials() {
 // N 4,096 taken, 4,097 refused.
 fn starts() {
     say(b"N 4096 ");
-    let a = Module::start(4096, 1, off(), half_cycle(1));
+    let a = Module::start(4096, 1, off(), half_cycle(1), 0);
     say_step(a);
     say(b"N 4097 ");
-    let b = Module::start(4097, 1, off(), half_cycle(1));
+    let b = Module::start(4097, 1, off(), half_cycle(1), 0);
     say_step(b);
 }
 
 // W 512 taken, 513 refused.
 fn half_cycles() {
     say(b"W 512 ");
-    let a = Module::start(1, 1, off(), half_cycle(512));
+    let a = Module::start(1, 1, off(), half_cycle(512), 0);
     say_step(a);
     say(b"W 513 ");
-    let b = Module::start(1, 1, off(), half_cycle(513));
+    let b = Module::start(1, 1, off(), half_cycle(513), 0);
+    say_step(b);
+}
+
+// Configuration 255 taken, 256 refused.
+fn configurations() {
+    say(b"CONFIG 255 ");
+    let a = Module::start(1, 1, off(), half_cycle(1), 255);
+    say_step(a);
+    say(b"CONFIG 256 ");
+    let b = Module::start(1, 1, off(), half_cycle(1), 256);
     say_step(b);
 }
 
@@ -92,7 +102,7 @@ const PLAIN: [i64; 8] = [0, 0, 2097152, 2097152, 0, 0, 0, 0];
 
 // A module whose card 0417 waits.
 fn with_card() -> Module {
-    let s = Module::start(4096, 1, off(), half_cycle(1));
+    let s = Module::start(4096, 1, off(), half_cycle(1), 0);
     let o = s.after.open(0, b"0417");
     let mut m = o.after;
     let mut k: usize = 0;
@@ -106,7 +116,7 @@ fn with_card() -> Module {
 }
 
 fn feed(m: Module, samples: &[i32]) {
-    let s = m.block(samples, samples);
+    let s = m.block(samples, samples, samples);
     say_step(s);
 }
 
@@ -160,6 +170,7 @@ fn main() {
     serials();
     starts();
     half_cycles();
+    configurations();
     blocks();
     cards();
 }

@@ -1,5 +1,5 @@
 // pace [BLOCKS [W [READS]]]: feeds one block of 4,096 samples so often, with W samples in half a cycle; then holds and reads so often; and prints
-// what a last hold tells: the registers, the interval's number, its counts of clipped samples, and both alarms.
+// what a last hold tells: VA_RMS, the eight registers of IA and of IB, and the interval's number.
 ghost use Prim.Native.Nat.{_≤_};
 use aberzhan::Looked;
 use aberzhan::Module;
@@ -11,11 +11,32 @@ use libc::STDOUT_FILENO;
 use port::Reading;
 use steps::Answer;
 
-// VRMS and the six figures, and both energy counts, by their byte addresses.
-const REGISTERS: [i64; 9] = [0x81, 0xBA, 0xD2, 0xE1, 0xEA, 0x12F, 0x1A1, 0x1AD, 0x1B6];
+// VA_RMS; the six figures and both energy counts of IA, and then of IB; by their byte addresses.
+const REGISTERS: [i64; 17] = [
+    0x81,
+    0xBA,
+    0xD2,
+    0xE1,
+    0xEA,
+    0x12F,
+    0x1A1,
+    0x1AD,
+    0x1B6,
+    0xBD,
+    0xD5,
+    0xE4,
+    0xED,
+    0x132,
+    0x1A4,
+    0x1BF,
+    0x1C8,
+];
 
-// Fields 1 to 8; with these gains some samples are clipped.
-const FIELDS: [i64; 8] = [17, -5, 2200000, 2150000, 1000, 3, 10, 2];
+// Fields 1 to 8.
+const FIELDS: [i64; 8] = [17, -5, 2097152, 1900000, 1000, 3, 10, 2];
+
+// IA is S1, and IB is S3.
+const CONFIG: i64 = 0x96;
 
 // A number of at most nine digits; any other text is 0.
 fn number_in(text: &[u8]) -> u64
@@ -67,18 +88,23 @@ fn sample(x: u64) -> i32
     (x / 256) as i32 - 8388608
 }
 
-// Samples from a row of numbers, alternately voltage and current.
-fn make_block(v: &mut [i32], i: &mut [i32]) {
+// Samples from a row of numbers, for V, S1 and S3 in turn.
+fn make_block(v: &mut [i32], s1: &mut [i32], s3: &mut [i32]) {
     let mut x: u64 = 1;
     let mut k = 0;
     while k < v.len() {
-        if i.len() <= k {
+        if s1.len() <= k {
+            return;
+        }
+        if s3.len() <= k {
             return;
         }
         x = next(x);
         v[k] = sample(x);
         x = next(x);
-        i[k] = sample(x);
+        s1[k] = sample(x);
+        x = next(x);
+        s3[k] = sample(x);
         k += 1;
     }
 }
@@ -102,7 +128,7 @@ fn started(w: i64) -> Stepped {
         vsurge: 6000000,
         sticky: 0x200000,
     };
-    Module::start(400, 0x0001AFC8BB4C, [off, off, off, off, off, off], asked)
+    Module::start(400, 0x0001AFC8BB4C, [off; 6], asked, CONFIG)
 }
 
 // With a card that waits.
@@ -113,10 +139,10 @@ fn prepared(m: Module) -> Module {
     c.after
 }
 
-fn fed(mut m: Module, n: u64, v: &[i32], i: &[i32]) -> Module {
+fn fed(mut m: Module, n: u64, v: &[i32], s1: &[i32], s3: &[i32]) -> Module {
     let mut k: u64 = 0;
     while k < n {
-        let s = m.block(v, i);
+        let s = m.block(v, s1, s3);
         m = s.after;
         k += 1;
     }
@@ -130,11 +156,6 @@ fn print_value(x: i64) {
     io::print_decimal(STDOUT_FILENO, number::size(x));
 }
 
-fn print_count(n: u32) {
-    io::write_all(STDOUT_FILENO, b" ");
-    io::print_decimal(STDOUT_FILENO, n as u64);
-}
-
 // A register's value; 0 if the read is refused.
 fn told(s: Looked) -> i64 {
     let answer = s.answer;
@@ -144,7 +165,7 @@ fn told(s: Looked) -> i64 {
     }
 }
 
-// Reads each of the nine registers. No value is below 24 bits; that it is looked at keeps the reads in the program that is timed.
+// Reads the first nine registers. No value is below 24 bits; that it is looked at keeps the reads in the program that is timed.
 fn all_read(held: Module) -> bool {
     let mut k: usize = 0;
     while k < 9 {
@@ -156,7 +177,7 @@ fn all_read(held: Module) -> bool {
     true
 }
 
-// Holds, and reads the nine registers, n times.
+// Holds, and reads nine registers, n times.
 fn reread(mut m: Module, n: u64) -> Module {
     let mut k: u64 = 0;
     while k < n {
@@ -173,15 +194,11 @@ fn reread(mut m: Module, n: u64) -> Module {
 
 fn print_registers(held: Module) {
     let mut k: usize = 0;
-    while k < 9 {
+    while k < 17 {
         print_value(told(held.read(0, byte_addr(REGISTERS[k]))));
         io::write_all(STDOUT_FILENO, b" ");
         k += 1;
     }
-}
-
-fn print_alarm(set: bool) {
-    print_count(if set { 1 } else { 0 });
 }
 
 fn print_refused(n: u8) {
@@ -190,7 +207,7 @@ fn print_refused(n: u8) {
     io::write_all(STDOUT_FILENO, b"\n");
 }
 
-// The registers, the interval's number, its counts of clipped samples and both alarms; without any block, why there are none.
+// The registers and the interval's number; without any block, why there are none.
 fn print_held(m: Module) {
     let h = m.hold(0);
     let answer = h.answer;
@@ -199,10 +216,6 @@ fn print_held(m: Module) {
     } else {
         print_registers(h.after);
         io::print_decimal(STDOUT_FILENO, h.number as u64);
-        print_count(h.clips.v);
-        print_count(h.clips.i);
-        print_alarm(h.alarms.sag);
-        print_alarm(h.alarms.surge);
         io::write_all(STDOUT_FILENO, b"\n");
     }
 }
@@ -218,10 +231,11 @@ fn main() {
         return;
     }
     let mut v = [0i32; 4096];
-    let mut i = [0i32; 4096];
-    make_block(&mut v, &mut i);
+    let mut s1 = [0i32; 4096];
+    let mut s3 = [0i32; 4096];
+    make_block(&mut v, &mut s1, &mut s3);
     let ready = prepared(s.after);
-    let fed = fed(ready, blocks, &v, &i);
+    let fed = fed(ready, blocks, &v, &s1, &s3);
     let m = reread(fed, reads);
     print_held(m);
 }

@@ -21,13 +21,17 @@ slice-aggregate-run-4 c = search needs
 slice-aggregate-run-5 : tie.Need-slice-aggregate-run-5
 slice-aggregate-run-5 c = search needs
 
+slice-aggregate-run-6 : tie.Need-slice-aggregate-run-6
+slice-aggregate-run-6 c = search needs
+
 run-requires : tie.Need-run-requires
 run-requires c κs = record {
   chunk-room = length-replicate {A = ℕ} 256 0;
   line-room = length-replicate {A = ℕ} 131073 0;
-  out-room = length-replicate {A = ℕ} 360448 0;
+  out-room = length-replicate {A = ℕ} 409600 0;
   v-room = length-replicate {A = ℤ} 8192 (pos 0);
-  i-room = length-replicate {A = ℤ} 8192 (pos 0);
+  s1-room = length-replicate {A = ℤ} 8192 (pos 0);
+  s3-room = length-replicate {A = ℤ} 8192 (pos 0);
 }
 
 returns : tie.Need-returns
@@ -42,5 +46,6 @@ main-spec =
     slice-aggregate-run-3
     slice-aggregate-run-4
     slice-aggregate-run-5
+    slice-aggregate-run-6
     run-requires
     returns)

@@ -5,10 +5,10 @@ use Rattle.pace.proofs.fed.Statement.{statement}
 use Rattle.pace.proofs.fed.Tie as tie
 
 abbrev Inv-loop : tie.InvT-loop
-Inv-loop m₀ n v i k₀ m k = k ≤ n
+Inv-loop m₀ n v s1 s3 k₀ m k = k ≤ n
 
 abbrev μ-loop : tie.MeasureT-loop
-μ-loop m₀ n v i k₀ m k = n - k
+μ-loop m₀ n v s1 s3 k₀ m k = n - k
 
 loop-holds : tie.Need-loop-holds Inv-loop μ-loop
 loop-holds c = search needs

@@ -1,14 +1,14 @@
--- `print_registers` prints nine registers.
+-- `print_registers` prints the registers.
 use borrow.Author.Needs.{needs}
 use Prim.Native.Nat.{_-_, _≤_}
 use Rattle.pace.proofs.print_registers.Statement.{statement}
 use Rattle.pace.proofs.print_registers.Tie as tie
 
 abbrev Inv-loop : tie.InvT-loop
-Inv-loop held k₀ t3 k = k ≤ 9
+Inv-loop held k₀ t3 k = k ≤ 17
 
 abbrev μ-loop : tie.MeasureT-loop
-μ-loop held k₀ t3 k = 9 - k
+μ-loop held k₀ t3 k = 17 - k
 
 loop-holds : tie.Need-loop-holds Inv-loop μ-loop
 loop-holds c = search needs

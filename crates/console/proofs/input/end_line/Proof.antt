@@ -24,8 +24,8 @@ within c = omega (arith, c .line-length .ensures, return-within (take (c .before
 quiet : (c : tie.After-is-silent) → c .is-silent .result ≡ silent (withoutReturn (take (c .before .before .before .before .before .before .args .s .kept) (now (c .before .before .before .before .before .before .args .line))))
 quiet c = c .is-silent .ensures ∙ ap silent (line (c .before .before))
 
-turn : (c : tie.After-take-line) → c .take-line .result ≡ lineTurn (c .before .before .before .before .before .before .before .before .before .before .before .args .s .«module») (withoutReturn (take (c .before .before .before .before .before .before .before .before .before .before .before .args .s .kept) (now (c .before .before .before .before .before .before .before .before .before .before .before .args .line))))
-turn c = rw (c .before .before .before .before .before .before .before .before .before .before .before .pre .v-room, c .before .before .before .before .before .before .before .before .before .before .before .pre .i-room, line (c .before .before .before .before .before .before .before)) at (c .take-line .ensures)
+turn : (c : tie.After-take-line) → c .take-line .result ≡ lineTurn (c .before .before .before .before .before .before .before .before .before .before .before .before .args .s .«module») (withoutReturn (take (c .before .before .before .before .before .before .before .before .before .before .before .before .args .s .kept) (now (c .before .before .before .before .before .before .before .before .before .before .before .before .args .line))))
+turn c = rw (c .before .before .before .before .before .before .before .before .before .before .before .before .pre .v-room, c .before .before .before .before .before .before .before .before .before .before .before .before .pre .s1-room, c .before .before .before .before .before .before .before .before .before .before .before .before .pre .s3-room, line (c .before .before .before .before .before .before .before .before)) at (c .take-line .ensures)
 
 slice-aggregate-line-length : tie.Need-slice-aggregate-line-length
 slice-aggregate-line-length c = sym (length-take-le _ _ (c .before .before .before .pre .kept))
@@ -51,7 +51,7 @@ take-line-requires : tie.Need-take-line-requires
 take-line-requires c κs = search needs
 
 put-answer-requires : tie.Need-put-answer-requires
-put-answer-requires c κs = omega (arith, c .before .before .before .before .before .before .before .before .before .before .before .before .before .before .before .pre .used)
+put-answer-requires c κs = omega (arith, c .before .before .before .before .before .before .before .before .before .before .before .before .before .before .before .before .before .pre .used)
 
 same-length : tie.Need-same-length
 same-length c = search needs
@@ -62,16 +62,19 @@ same-length-2 c = search needs
 same-length-3 : tie.Need-same-length-3
 same-length-3 c = search needs
 
+same-length-4 : tie.Need-same-length-4
+same-length-4 c = search needs
+
 returns-2 : tie.Need-returns-2
 returns-2 c =
-    let s = c .before .before .before .before .before .before .before .before .before .before .before .before .before .before .before .before .before .before .before in
-    let l = c .before .before .before .before .before .before .before .before in
+    let s = c .before .before .before .before .before .before .before .before .before .before .before .before .before .before .before .before .before .before .before .before .before in
+    let l = c .before .before .before .before .before .before .before .before .before in
     let line = now (s .args .line) in
     let out = now (s .args .out) in
     let p = c .before .before .before .put-answer .ensures in
     let z = p .0 ∙ ap (λ (u : Turn). take (s .args .s .used) out ++ answerText u) (turn l) in (
       (λ j. record { state = turn l j .after; kept = take 0 line; said = z j })
-          ∙ sym (ends-answered (talkOf (s .args .s) line out) (sym (quiet (c .before .before .before .before .before .before .before .before .before .before .before .before .before)) ∙ c .before .before .before .before .before .before .before .before .before .before .before .before .if1 .left)),
+          ∙ sym (ends-answered (talkOf (s .args .s) line out) (sym (quiet (c .before .before .before .before .before .before .before .before .before .before .before .before .before .before .before)) ∙ c .before .before .before .before .before .before .before .before .before .before .before .before .before .before .if1 .left)),
       (refl, p .1),
     )
 
@@ -90,4 +93,5 @@ end-line-spec =
     same-length
     same-length-2
     same-length-3
+    same-length-4
     returns-2)

@@ -33,7 +33,7 @@ write-out-requires : tie.Need-write-out-requires
 write-out-requires c κs = search needs
 
 same-length-2 : tie.Need-same-length-2
-same-length-2 c = c .before .before .before .before .before .before .before .before .before .before .before .before .before .before .before .before .before .before .before .before .read .kept .1 .0
+same-length-2 c = c .before .before .before .before .before .before .before .before .before .before .before .before .before .before .before .before .before .before .before .before .before .before .read .kept .1 .0
 
 same-length-3 : tie.Need-same-length-3
 same-length-3 c = search needs
@@ -47,19 +47,23 @@ same-length-5 c = search needs
 same-length-6 : tie.Need-same-length-6
 same-length-6 c = search needs
 
+same-length-7 : tie.Need-same-length-7
+same-length-7 c = search needs
+
 returns-2 : tie.Need-returns-2
 returns-2 c =
-    let t = c .before .before .before .before .before .before .before .before in
-    let r = c .before .before .before .before .before .before .before .before .before .before .before .before .before .before .before .before .before .before .before .before .before .before .before .before .before .pre in
+    let t = c .before .before .before .before .before .before .before .before .before in
+    let r = c .before .before .before .before .before .before .before .before .before .before .before .before .before .before .before .before .before .before .before .before .before .before .before .before .before .before .before .pre in
     let e = t .take-part .ensures .1 in
     let k = t .take-part .kept .1 .1 in
     rw (c .write-out .ensures)
     (record {
       kept = omega (arith, e .0, k .0, r .line-room);
-      used = omega (arith, r .used, k .1 .1 .1 .0, c .before .before .before .before .before .before .before .before .before .before .before .before .before .before .before .before .before .before .before .before .read .kept .1 .0);
+      used = omega (arith, r .used, k .1 .1 .1 .1 .0, c .before .before .before .before .before .before .before .before .before .before .before .before .before .before .before .before .before .before .before .before .before .before .read .kept .1 .0);
       line-room = k .0 ∙ r .line-room;
       v-room = k .1 .0 ∙ r .v-room;
-      i-room = k .1 .1 .0 ∙ r .i-room;
+      s1-room = k .1 .1 .0 ∙ r .s1-room;
+      s3-room = k .1 .1 .1 .0 ∙ r .s3-room;
     })
 
 pub read-some-spec : {M : Type 1} → statement M
@@ -80,4 +84,5 @@ read-some-spec =
     same-length-4
     same-length-5
     same-length-6
+    same-length-7
     returns-2)

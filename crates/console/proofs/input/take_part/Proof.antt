@@ -13,17 +13,18 @@ use Rattle.console.proofs.input.take_part.Statement.{statement}
 use Rattle.console.proofs.input.take_part.Tie as tie
 
 abbrev Inv-loop : tie.InvT-loop
-Inv-loop s₀ part line₀ v₀ i₀ out₀ at₀ s line v i out at =
-    Ready s line out v i (length part - at) × (at ≤ length part) × (talked (talkOf s line out) (drop at part) ≡ talked (talkOf s₀ line₀ out₀) part)
-    × (length line ≡ length line₀) × (length v ≡ length v₀) × (length i ≡ length i₀) × (length out ≡ length out₀)
+Inv-loop s₀ part line₀ v₀ s1₀ s3₀ out₀ at₀ s line v s1 s3 out at =
+    Ready s line out v s1 s3 (length part - at) × (at ≤ length part) × (talked (talkOf s line out) (drop at part) ≡ talked (talkOf s₀ line₀ out₀) part)
+    × (length line ≡ length line₀) × (length v ≡ length v₀) × (length s1 ≡ length s1₀) × (length s3 ≡ length s3₀)
+    × (length out ≡ length out₀)
 
 abbrev μ-loop : tie.MeasureT-loop
-μ-loop s₀ part line₀ v₀ i₀ out₀ at₀ s line v i out at = length part - at
+μ-loop s₀ part line₀ v₀ s1₀ s3₀ out₀ at₀ s line v s1 s3 out at = length part - at
 
 loop-holds : tie.Need-loop-holds Inv-loop μ-loop
 loop-holds c =
     let r = c .before .before .before .pre in
-    (record { kept = r .kept; used = omega (arith, r .used); line-room = r .line-room; v-room = r .v-room; i-room = r .i-room }, omega arith, refl, refl, refl, refl, refl)
+    (record { kept = r .kept; used = omega (arith, r .used); line-room = r .line-room; v-room = r .v-room; s1-room = r .s1-room; s3-room = r .s3-room }, omega arith, refl, refl, refl, refl, refl, refl)
 
 sub-length-to : tie.Need-sub-length-to Inv-loop μ-loop
 sub-length-to c = omega arith
@@ -87,40 +88,42 @@ ready c = omega (arith, c .keep .ensures .1, c .keep .kept .0)
 
 end-line-requires : tie.Need-end-line-requires Inv-loop μ-loop
 end-line-requires c κs =
-    let k = c .before .before .before .before .before .before .before in
+    let k = c .before .before .before .before .before .before .before .before in
     let p = k .before .before .before .before .before .before in
     let i = p .loop .inv in
     record {
       kept = ready k;
-      used = omega (arith, i .0 .used, c .before .before .before .before .if1 .taken, reach (k .before .before .before));
+      used = omega (arith, i .0 .used, c .before .before .before .before .before .if1 .taken, reach (k .before .before .before));
       line-room = k .keep .kept .0 ∙ i .0 .line-room;
       v-room = i .0 .v-room;
-      i-room = i .0 .i-room;
+      s1-room = i .0 .s1-room;
+      s3-room = i .0 .s3-room;
     }
 
 add-at : tie.Need-add-at Inv-loop μ-loop
-add-at c = omega (arith, c .before .before .before .before .before .before .before .before .before .if1 .taken, c .before .before .before .before .before .before .before .before .before .before .before .before .before .before .before .before .before .before .before .before .before .before .good)
+add-at c = omega (arith, c .before .before .before .before .before .before .before .before .before .before .before .if1 .taken, c .before .before .before .before .before .before .before .before .before .before .before .before .before .before .before .before .before .before .before .before .before .before .before .before .good)
 
 loop-less : tie.Need-loop-less Inv-loop μ-loop
 loop-less c = omega arith
 
 loop-again : tie.Need-loop-again Inv-loop μ-loop
 loop-again c =
-    let d = c .before .before .before .before in
-    let k = d .before .before .before .before .before .before .before .before in
+    let d = c .before .before .before .before .before in
+    let k = c .before .before .before .before .before .before .before .before .before .before .before .before .before .before in
     let l = k .before .before .before in
     let p = l .before .before .before in
     let a = p .before .before .before .before .args in
     let i = p .loop .inv in
     let m = d .end-line .kept in
-    let f = c .before .before .before .before .before .before .before .before .before .if1 .taken in
+    let f = c .before .before .before .before .before .before .before .before .before .before .before .if1 .taken in
     let e = d .end-line .ensures in (
       record {
         kept = omega (arith, e .1 .0);
-        used = omega (arith, i .0 .used, e .1 .1, f, m .1 .1 .1 .1 .0);
+        used = omega (arith, i .0 .used, e .1 .1, f, m .1 .1 .1 .1 .1 .0);
         line-room = k .keep .kept .0 ∙ i .0 .line-room;
         v-room = m .1 .1 .0 ∙ i .0 .v-room;
-        i-room = m .1 .1 .1 .0 ∙ i .0 .i-room;
+        s1-room = m .1 .1 .1 .0 ∙ i .0 .s1-room;
+        s3-room = m .1 .1 .1 .1 .0 ∙ i .0 .s3-room;
       },
       omega arith,
       turn-answers (a .part .now) (p .loop .at) (l .length-to .result) (feed l) _ _ (e .0) f ∙ kept-on k,
@@ -128,6 +131,7 @@ loop-again c =
       m .1 .1 .0 ∙ i .4,
       m .1 .1 .1 .0 ∙ i .5,
       m .1 .1 .1 .1 .0 ∙ i .6,
+      m .1 .1 .1 .1 .1 .0 ∙ i .7,
     )
 
 loop-less-2 : tie.Need-loop-less-2 Inv-loop μ-loop
@@ -143,7 +147,8 @@ loop-again-2 c =
         used = omega (arith, i .0 .used);
         line-room = k .keep .kept .0 ∙ i .0 .line-room;
         v-room = i .0 .v-room;
-        i-room = i .0 .i-room;
+        s1-room = i .0 .s1-room;
+        s3-room = i .0 .s3-room;
       },
       reach l,
       kept-on k,
@@ -151,6 +156,7 @@ loop-again-2 c =
       i .4,
       i .5,
       i .6,
+      i .7,
     )
 
 same-length : tie.Need-same-length Inv-loop μ-loop
@@ -164,6 +170,9 @@ same-length-3 c = c .before .loop .inv .5
 
 same-length-4 : tie.Need-same-length-4 Inv-loop μ-loop
 same-length-4 c = c .before .loop .inv .6
+
+same-length-5 : tie.Need-same-length-5 Inv-loop μ-loop
+same-length-5 c = c .before .loop .inv .7
 
 -- at the end of the part nothing is left
 nil : (t : Talk) → t ≡ talked t []
@@ -206,4 +215,5 @@ take-part-spec =
     same-length-2
     same-length-3
     same-length-4
+    same-length-5
     returns)

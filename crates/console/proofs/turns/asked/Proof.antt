@@ -3,6 +3,7 @@ use mathlib.Core.Path.{_≡_, _∙_}
 use native.Mathlib.Omega.{arith}
 use lib.IntN.{pos}
 use lib.ListN.{length}
+use Rattle.console.specs.Words.{most}
 use Rattle.console.proofs.TurnLaws.{as-read, any-default}
 use borrow.Author.Needs.{needs}
 use Rattle.console.proofs.turns.asked.Statement.{statement}
@@ -20,7 +21,7 @@ array-copy-out-t11 c = search needs
 array-copy-out-t14 : tie.Need-array-copy-out-t14
 array-copy-out-t14 c = search needs
 
-long : (c : tie.After-t14) → length (c .before .before .before .before .args .t1) ≡ 12
+long : (c : tie.After-t14) → length (c .before .before .before .before .args .t1) ≡ most
 long c = search needs
 
 returns : tie.Need-returns

@@ -27,7 +27,7 @@ unread-requires : tie.Need-unread-requires
 unread-requires c κs = search needs
 
 returns : tie.Need-returns
-returns c = c .unread .ensures ∙ long-line _ _ _ _ (c .before .if1 .taken)
+returns c = c .unread .ensures ∙ long-line _ _ _ _ _ (c .before .if1 .taken)
 
 length-to-requires : tie.Need-length-to-requires
 length-to-requires c κs = search needs
@@ -75,10 +75,10 @@ with-items-requires : tie.Need-with-items-requires
 with-items-requires c κs = search needs
 
 returns-2 : tie.Need-returns-2
-returns-2 c = c .with-text .ensures ∙ ap (withText _) (behind (c .before .before .before)) ∙ line-with _ _ _ _ Open (word (c .before .before .before .before) ∙ c .before .enum-told .given .1) (c .before .before .before .before .before .before .before .if1 .left)
+returns-2 c = c .with-text .ensures ∙ ap (withText _) (behind (c .before .before .before)) ∙ line-with _ _ _ _ _ Open (word (c .before .before .before .before) ∙ c .before .enum-told .given .1) (c .before .before .before .before .before .before .before .if1 .left)
 
 returns-3 : tie.Need-returns-3
-returns-3 c = c .with-packet .ensures ∙ ap (withPacket _) (behind (c .before .before .before)) ∙ line-with _ _ _ _ Poll (word (c .before .before .before .before) ∙ c .before .enum-told2 .given .1) (c .before .before .before .before .before .before .before .if1 .left)
+returns-3 c = c .with-packet .ensures ∙ ap (withPacket _) (behind (c .before .before .before)) ∙ line-with _ _ _ _ _ Poll (word (c .before .before .before .before) ∙ c .before .enum-told2 .given .1) (c .before .before .before .before .before .before .before .if1 .left)
 
 same-length : tie.Need-same-length
 same-length c = search needs
@@ -86,19 +86,22 @@ same-length c = search needs
 same-length-2 : tie.Need-same-length-2
 same-length-2 c = search needs
 
+same-length-3 : tie.Need-same-length-3
+same-length-3 c = search needs
+
 returns-4 : tie.Need-returns-4
-returns-4 c = c .before .before .with-samples .ensures ∙ ap (withSamples _ _ _) (behind (c .before .before .before .before .before .before .before)) ∙ line-with _ _ _ _ Block (word (c .before .before .before .before .before .before .before .before) ∙ c .before .before .before .before .before .enum-told3 .given .1) (c .before .before .before .before .before .before .before .before .before .before .before .if1 .left)
+returns-4 c = c .before .before .before .with-samples .ensures ∙ ap (withSamples _ _ _ _) (behind (c .before .before .before .before .before .before .before .before .before)) ∙ line-with _ _ _ _ _ Block (word (c .before .before .before .before .before .before .before .before .before .before) ∙ c .before .before .before .before .before .before .before .enum-told3 .given .1) (c .before .before .before .before .before .before .before .before .before .before .before .before .before .if1 .left)
 
 returns-5 : tie.Need-returns-5
-returns-5 c = c .unread2 .ensures ∙ line-with _ _ _ _ Other (word (c .before .before .before .before) ∙ c .before .enum-told4 .given .1) (c .before .before .before .before .before .before .before .if1 .left)
+returns-5 c = c .unread2 .ensures ∙ line-with _ _ _ _ _ Other (word (c .before .before .before .before) ∙ c .before .enum-told4 .given .1) (c .before .before .before .before .before .before .before .if1 .left)
 
 returns-6 : tie.Need-returns-6
 returns-6 c =
     let w = c .before .before .before in
     c .with-items .ensures
     ∙ ap (withItems _ (w .first-word .result)) (behind (c .before .before))
-    ∙ with-items _ _ _ (w .first-word .result) _ (c .before .match .keys5)
-    ∙ line-with _ _ _ _ (w .first-word .result) (word w) (c .before .before .before .before .before .before .if1 .left)
+    ∙ with-items _ _ _ _ (w .first-word .result) _ (c .before .match .keys5)
+    ∙ line-with _ _ _ _ _ (w .first-word .result) (word w) (c .before .before .before .before .before .before .if1 .left)
 
 pub take-line-spec : {M : Type 1} → statement M
 take-line-spec =
@@ -125,6 +128,7 @@ take-line-spec =
     returns-3
     same-length
     same-length-2
+    same-length-3
     returns-4
     returns-5
     returns-6)

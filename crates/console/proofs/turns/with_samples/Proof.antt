@@ -1,119 +1,97 @@
--- `with_samples` is a block: voltages, a bar, currents.
-use Prim.Native.Nat.{ℕ, _-_, _≤_}
-use mathlib.Core.Path.{_≡_, sym, ap, _∙_}
-use mathlib.Core.List.{List, [], _∷_}
-use native.Mathlib.Omega.{arith}
-use lib.ListN.{length, take, drop}
+-- `with_samples` is a block: V, a bar, S1, a bar, S3.
+use mathlib.Core.Path.{sym, ap, subst, _∙_}
+use lib.ListN.{length}
 use lib.Seq.{length-take-le}
-use Rattle.console.specs.declared.words.Kind.the-variants as kind
-use Rattle.console.specs.declared.unread.Why.{Why}
-use Rattle.console.specs.Texts.{beginsWith}
-use Rattle.console.specs.Items.{samples}
-use Rattle.console.specs.Unread.{sideStopped}
-use Rattle.console.specs.Turns.{unreadTurn, currentsTurn}
-use Rattle.console.proofs.TextLaws.{begins-within, rest-of}
-use Rattle.console.proofs.ItemLaws.{row-within, row-count, several-long}
-use Rattle.console.proofs.TurnLaws.{no-bar, behind-bar}
+use Rattle.console.specs.declared.slices.Slice.{Slice}
+use Rattle.console.specs.Turns.{s1Turn}
+use Rattle.console.specs.Inside.{Ended, Stopped, Sliced}
+use Rattle.console.proofs.TextLaws.{rest-of}
+use Rattle.console.proofs.TurnLaws.{slice-more, slice-not}
 use borrow.Author.Needs.{needs}
 use Rattle.console.proofs.turns.with_samples.Statement.{statement}
 use Rattle.console.proofs.turns.with_samples.Tie as tie
 
-inside : (c : tie.After-take-samples) → c .take-samples .result .taken ≤ length (c .before .before .before .args .rest .now)
-inside c = rw (c .take-samples .ensures .bytes) (row-within (samples (length (c .before .before .before .args .v .now))) (c .before .before .before .args .rest .now))
+ended : (c : tie.After-known-told) → let z = c .before .count .given .0 in Ended (z .0) (z .1 .0) (length (c .before .before .before .before .before .before .before .args .v .now)) (c .before .before .before .before .before .before .before .args .rest .now) (c .before .before .before .before .take-slice .last .1 .0)
+ended c =
+    let t = c .before .before .before .before .take-slice in
+    subst (λ (s : Slice). Sliced s (length (c .before .before .before .before .before .before .before .args .v .now)) (c .before .before .before .before .before .before .before .args .rest .now) (t .last .1 .0)) (c .before .count .given .1) (t .ensures)
 
-room : (c : tie.After-take-samples) → c .take-samples .result .count ≤ length (c .take-samples .last .1 .0)
-room c = omega (arith, c .take-samples .ensures .count, row-count (samples (length (c .before .before .before .args .v .now))) (c .before .before .before .args .rest .now), several-long kind.Sample (length (c .before .before .before .args .v .now)), c .take-samples .kept .1 .0)
+stops : (c : tie.After-known-told2) → Stopped (c .before .why .given .0 .0) (length (c .before .before .before .before .before .before .before .args .v .now)) (c .before .before .before .before .before .before .before .args .rest .now)
+stops c =
+    let t = c .before .before .before .before .take-slice in
+    subst (λ (s : Slice). Sliced s (length (c .before .before .before .before .before .before .before .args .v .now)) (c .before .before .before .before .before .before .before .args .rest .now) (t .last .1 .0)) (c .before .why .given .1) (t .ensures)
 
-barred : (c : tie.After-begins) → c .begins .result ≡ beginsWith (32 ∷ 124 ∷ []) (drop (c .before .before .before .before .take-samples .result .taken) (c .before .before .before .before .before .before .before .args .rest .now))
-barred c = c .begins .ensures ∙ ap (beginsWith (32 ∷ 124 ∷ [])) (rest-of (c .before .before .before .before .take-samples .result .taken) (c .before .before .before .before .before .before .before .args .rest .now))
+take-slice-requires : tie.Need-take-slice-requires
+take-slice-requires c κs = search needs
 
-take-samples-requires : tie.Need-take-samples-requires
-take-samples-requires c κs = search needs
+enum-known-count : tie.Need-enum-known-count
+enum-known-count c = search needs
 
-sub-behind : tie.Need-sub-behind
-sub-behind c = inside (c .before)
+slice-reshare-prefix-with-s1 : tie.Need-slice-reshare-prefix-with-s1
+slice-reshare-prefix-with-s1 c = ended c .fits
 
-part-behind-start : tie.Need-part-behind-start
-part-behind-start c = inside (c .before)
+slice-aggregate-with-s1 : tie.Need-slice-aggregate-with-s1
+slice-aggregate-with-s1 c = sym (length-take-le _ _ (ended (c .before) .fits))
 
-part-behind-end : tie.Need-part-behind-end
-part-behind-end c = search needs
+sub-with-s1 : tie.Need-sub-with-s1
+sub-with-s1 c = ended (c .before) .inside
 
-slice-aggregate-begins : tie.Need-slice-aggregate-begins
-slice-aggregate-begins c = search needs
+part-with-s1-start : tie.Need-part-with-s1-start
+part-with-s1-start c = ended (c .before) .inside
 
-begins-requires : tie.Need-begins-requires
-begins-requires c κs = search needs
+part-with-s1-end : tie.Need-part-with-s1-end
+part-with-s1-end c = search needs
 
-slice-reshare-prefix-with-currents : tie.Need-slice-reshare-prefix-with-currents
-slice-reshare-prefix-with-currents c = room (c .before .before .before .before .before)
+with-s1-requires : tie.Need-with-s1-requires
+with-s1-requires c κs = search needs
 
-slice-aggregate-with-currents : tie.Need-slice-aggregate-with-currents
-slice-aggregate-with-currents c = sym (length-take-le _ _ (room (c .before .before .before .before .before .before)))
-
-sub-with-currents : tie.Need-sub-with-currents
-sub-with-currents c = begins-within _ _ (sym (c .before .before .begins .ensures) ∙ c .before .if1 .taken)
-
-part-with-currents-start : tie.Need-part-with-currents-start
-part-with-currents-start c = begins-within _ _ (sym (c .before .before .begins .ensures) ∙ c .before .if1 .taken)
-
-part-with-currents-end : tie.Need-part-with-currents-end
-part-with-currents-end c = search needs
-
-with-currents-requires : tie.Need-with-currents-requires
-with-currents-requires c κs = search needs
-
-same-length : tie.Need-same-length
-same-length c = c .before .before .before .before .before .before .before .before .before .before .take-samples .kept .1 .0
-
-same-length-2 : tie.Need-same-length-2
-same-length-2 c = search needs
-
-returns : tie.Need-returns
-returns c =
-    let t = c .before .before .before .before .before .before .before .before .before .before .take-samples in
-    c .before .with-currents .ensures
-    ∙ ap (currentsTurn (length (c .before .before .before .before .before .before .before .before .before .before .before .before .before .args .i .now)) (c .before .before .before .before .before .before .before .before .before .before .before .before .before .args .m) (take (t .result .count) (t .last .1 .0)))
-    (ap (λ (b : List _). take (length b - 2) (drop 2 b)) (rest-of (t .result .taken) (c .before .before .before .before .before .before .before .before .before .before .before .before .before .args .rest .now)) ∙ rest-of 2 (drop (c .before .before .before .before .before .before .before .before .before .before .take-samples .result .taken) (c .before .before .before .before .before .before .before .before .before .before .before .before .before .args .rest .now)))
-    ∙ behind-bar _ _ _ _ _ _ _ (t .ensures) (sym (barred (c .before .before .before .before .before .before)) ∙ c .before .before .before .before .before .if1 .taken)
-
-side-stopped-requires : tie.Need-side-stopped-requires
-side-stopped-requires c κs = search needs
+enum-known-why : tie.Need-enum-known-why
+enum-known-why c = search needs
 
 unread-requires : tie.Need-unread-requires
 unread-requires c κs = search needs
 
+same-length : tie.Need-same-length
+same-length c = search needs
+
+same-length-2 : tie.Need-same-length-2
+same-length-2 c = search needs
+
 same-length-3 : tie.Need-same-length-3
 same-length-3 c = search needs
 
+returns : tie.Need-returns
+returns c =
+    let a = c .before .before .before .before .before .before .before .before .before .before .before .before .before .before .args in
+    let e = ended (c .before .before .before .before .before .before .before) in
+    let more = s1Turn (length (a .s1 .now)) (length (a .s3 .now)) (a .m) in
+    c .before .before .with-s1 .ensures ∙ ap (more _) (rest-of _ (a .rest .now)) ∙ slice-more (length (a .v .now)) (a .m) (a .rest .now) more _ _ _ e
+
+same-length-4 : tie.Need-same-length-4
+same-length-4 c = search needs
+
 returns-2 : tie.Need-returns-2
 returns-2 c =
-    let t = c .before .before .before .before .before .before .before .take-samples in
-    c .unread .ensures
-    ∙ ap (λ (w : Why). unreadTurn (c .before .before .before .before .before .before .before .before .before .before .args .m) w)
-    (c .before .side-stopped .ensures ∙ ap (λ (n : ℕ). sideStopped n (t .result .count) (take (length (c .before .before .before .before .before .before .before .before .before .before .args .rest .now) - t .result .taken) (drop (t .result .taken) (c .before .before .before .before .before .before .before .before .before .before .args .rest .now)))) (t .kept .1 .0) ∙ ap (sideStopped (length (c .before .before .before .before .before .before .before .before .before .before .args .v .now)) (t .result .count)) (rest-of (t .result .taken) (c .before .before .before .before .before .before .before .before .before .before .args .rest .now)))
-    ∙ no-bar _ _ _ _ _ _ _ (t .ensures) (sym (barred (c .before .before .before)) ∙ c .before .before .if1 .left)
+    let a = c .before .before .before .before .before .before .before .before .args in
+    c .unread .ensures ∙ slice-not (length (a .v .now)) (a .m) (a .rest .now) (s1Turn (length (a .s1 .now)) (length (a .s3 .now)) (a .m)) _ (stops (c .before))
 
 pub with-samples-spec : {M : Type 1} → statement M
 with-samples-spec =
     tie.close
     (tie.spec
-    take-samples-requires
-    sub-behind
-    part-behind-start
-    part-behind-end
-    slice-aggregate-begins
-    begins-requires
-    slice-reshare-prefix-with-currents
-    slice-aggregate-with-currents
-    sub-with-currents
-    part-with-currents-start
-    part-with-currents-end
-    with-currents-requires
+    take-slice-requires
+    enum-known-count
+    slice-reshare-prefix-with-s1
+    slice-aggregate-with-s1
+    sub-with-s1
+    part-with-s1-start
+    part-with-s1-end
+    with-s1-requires
+    enum-known-why
+    unread-requires
     same-length
     same-length-2
-    returns
-    side-stopped-requires
-    unread-requires
     same-length-3
+    returns
+    same-length-4
     returns-2)

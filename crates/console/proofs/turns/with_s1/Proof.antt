@@ -1,0 +1,93 @@
+-- `with_s1` is a block behind its first bar.
+use mathlib.Core.Path.{sym, ap, subst, _∙_}
+use lib.ListN.{length}
+use lib.Seq.{length-take-le}
+use Rattle.console.specs.declared.slices.Slice.{Slice}
+use Rattle.console.specs.Turns.{s3Turn}
+use Rattle.console.specs.Inside.{Ended, Stopped, Sliced}
+use Rattle.console.proofs.TextLaws.{rest-of}
+use Rattle.console.proofs.TurnLaws.{slice-more, slice-not}
+use borrow.Author.Needs.{needs}
+use Rattle.console.proofs.turns.with_s1.Statement.{statement}
+use Rattle.console.proofs.turns.with_s1.Tie as tie
+
+ended : (c : tie.After-known-told) → let z = c .before .count .given .0 in Ended (z .0) (z .1 .0) (length (c .before .before .before .before .before .before .before .args .s1 .now)) (c .before .before .before .before .before .before .before .args .text .now) (c .before .before .before .before .take-slice .last .1 .0)
+ended c =
+    let t = c .before .before .before .before .take-slice in
+    subst (λ (s : Slice). Sliced s (length (c .before .before .before .before .before .before .before .args .s1 .now)) (c .before .before .before .before .before .before .before .args .text .now) (t .last .1 .0)) (c .before .count .given .1) (t .ensures)
+
+stops : (c : tie.After-known-told2) → Stopped (c .before .why .given .0 .0) (length (c .before .before .before .before .before .before .before .args .s1 .now)) (c .before .before .before .before .before .before .before .args .text .now)
+stops c =
+    let t = c .before .before .before .before .take-slice in
+    subst (λ (s : Slice). Sliced s (length (c .before .before .before .before .before .before .before .args .s1 .now)) (c .before .before .before .before .before .before .before .args .text .now) (t .last .1 .0)) (c .before .why .given .1) (t .ensures)
+
+take-slice-requires : tie.Need-take-slice-requires
+take-slice-requires c κs = search needs
+
+enum-known-count : tie.Need-enum-known-count
+enum-known-count c = search needs
+
+slice-reshare-prefix-with-s3 : tie.Need-slice-reshare-prefix-with-s3
+slice-reshare-prefix-with-s3 c = ended c .fits
+
+slice-aggregate-with-s3 : tie.Need-slice-aggregate-with-s3
+slice-aggregate-with-s3 c = sym (length-take-le _ _ (ended (c .before) .fits))
+
+sub-with-s3 : tie.Need-sub-with-s3
+sub-with-s3 c = ended (c .before) .inside
+
+part-with-s3-start : tie.Need-part-with-s3-start
+part-with-s3-start c = ended (c .before) .inside
+
+part-with-s3-end : tie.Need-part-with-s3-end
+part-with-s3-end c = search needs
+
+with-s3-requires : tie.Need-with-s3-requires
+with-s3-requires c κs = search needs
+
+enum-known-why : tie.Need-enum-known-why
+enum-known-why c = search needs
+
+unread-requires : tie.Need-unread-requires
+unread-requires c κs = search needs
+
+same-length : tie.Need-same-length
+same-length c = search needs
+
+same-length-2 : tie.Need-same-length-2
+same-length-2 c = search needs
+
+returns : tie.Need-returns
+returns c =
+    let a = c .before .before .before .before .before .before .before .before .before .before .before .before .args in
+    let e = ended (c .before .before .before .before .before) in
+    let more = s3Turn (length (a .s3 .now)) (a .m) (a .v .now) in
+    c .before .with-s3 .ensures ∙ ap (more _) (rest-of _ (a .text .now)) ∙ slice-more (length (a .s1 .now)) (a .m) (a .text .now) more _ _ _ e
+
+same-length-3 : tie.Need-same-length-3
+same-length-3 c = search needs
+
+returns-2 : tie.Need-returns-2
+returns-2 c =
+    let a = c .before .before .before .before .before .before .before .before .args in
+    c .unread .ensures ∙ slice-not (length (a .s1 .now)) (a .m) (a .text .now) (s3Turn (length (a .s3 .now)) (a .m) (a .v .now)) _ (stops (c .before))
+
+pub with-s1-spec : {M : Type 1} → statement M
+with-s1-spec =
+    tie.close
+    (tie.spec
+    take-slice-requires
+    enum-known-count
+    slice-reshare-prefix-with-s3
+    slice-aggregate-with-s3
+    sub-with-s3
+    part-with-s3-start
+    part-with-s3-end
+    with-s3-requires
+    enum-known-why
+    unread-requires
+    same-length
+    same-length-2
+    returns
+    same-length-3
+    returns-2)
