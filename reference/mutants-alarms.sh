@@ -6,6 +6,7 @@ clear='module->alarms.set = 0;'
 string='s|^#include "module.h"|#include <string.h>\n&|'
 shown='alarms->set = .*'
 refused='s|^    return refusal;|    if (refusal != 0)'
+lowest='int64_t setting\[NUMBERS_MOST - 2 - SLOTS\] = \{1, 0, 0, 0, 0\};'
 
 # Which samples
 mutant 'alarms: compared from the first sample on' alarms.c "s|$waits|alarms->uncompared = 0;|"
@@ -25,31 +26,32 @@ mutant 'alarms: the squares before a long block lost' alarms.c 's|^        memmo
 mutant 'alarms: the window begins anew when it is full' alarms.c 's|^    for \(size_t k = 0; k < count; k\+\+\) \{|    if (alarms->uncompared == 0 \&\& count >= alarms->half_cycle) { above_sag -= alarms->sum; below_surge += alarms->sum; }\n&|'
 
 # Which squares
-mutant 'alarms: raw voltages' feed.c 's|square\[k\] = v \* v;|square[k] = (int64_t)voltage[k] * voltage[k];|'
-mutant 'alarms: voltages before the gain' feed.c 's|square\[k\] = v \* v;|square[k] = (voltage[k] - voffs) * (voltage[k] - voffs);|'
-mutant 'alarms: voltages before the offset' feed.c 's|square\[k\] = v \* v;|{ int64_t u = corrected(voltage[k], 0, vgain).value; square[k] = u * u; }|'
-mutant 'alarms: voltages before clipping' feed.c 's|square\[k\] = v \* v;|{ int64_t u = halved_down((voltage[k] - voffs) * vgain, 21); square[k] = u * u; }|'
+mutant 'alarms: raw voltages' feed.c 's|square\[k\] = v \* v;|square[k] = (int64_t)raw[k] * raw[k];|'
+mutant 'alarms: voltages before the gain' feed.c 's|square\[k\] = v \* v;|square[k] = (raw[k] - voffs) * (raw[k] - voffs);|'
+mutant 'alarms: voltages before the offset' feed.c 's|square\[k\] = v \* v;|{ int64_t u = corrected(raw[k], 0, vgain).value; square[k] = u * u; }|'
+mutant 'alarms: voltages before clipping' feed.c 's|square\[k\] = v \* v;|{ int64_t u = halved_down((raw[k] - voffs) * vgain, 21); square[k] = u * u; }|'
 mutant 'alarms: clipped voltages left out' feed.c 's|square\[k\] = v \* v;|square[k] = volts.outside ? 0 : v * v;|'
-mutant 'alarms: corrected toward zero' feed.c 's|square\[k\] = v \* v;|{ int64_t u = clipped((voltage[k] - voffs) * vgain / 2097152); square[k] = u * u; }|'
+mutant 'alarms: corrected toward zero' feed.c 's|square\[k\] = v \* v;|{ int64_t u = clipped((raw[k] - voffs) * vgain / 2097152); square[k] = u * u; }|'
 mutant 'alarms: -8388608 as 8388607' feed.c 's|square\[k\] = v \* v;|square[k] = at_most(size_of(v), HIGHEST) * at_most(size_of(v), HIGHEST);|'
 mutant 'alarms: sizes for squares' feed.c 's|square\[k\] = v \* v;|square[k] = size_of(v);|'
 mutant 'alarms: sizes for squares, and held against W times the level' feed.c 's|square\[k\] = v \* v;|square[k] = size_of(v);|' \
     alarms.c 's|w \* sag \* sag|w * sag|; s|w \* surge \* surge|w * surge|'
 mutant 'alarms: only voltages above 0' feed.c 's|square\[k\] = v \* v;|square[k] = v > 0 ? v * v : 0;|'
-mutant 'alarms: the current' feed.c 's|square\[k\] = v \* v;|square[k] = amps.value * amps.value;|'
-mutant 'alarms: the current behind PHASE' feed.c 's|square\[k\] = v \* v;|square[k] = i * i;|'
-mutant 'alarms: the products' feed.c 's|square\[k\] = v \* v;|square[k] = v * i;|'
+mutant 'alarms: the current' feed.c \
+    's|^    interval->samples \+= .*|    for (size_t k = 0; k < count; k++) { int64_t i = corrected(raw[S1][k], card->field[IOFFS], card->field[IGAIN]).value; square[k] = i * i; }\n&|'
+mutant 'alarms: the current behind PHASE' feed.c 's|^    interval->samples \+= .*|    for (size_t k = 0; k < count; k++) square[k] = (int64_t)stretch.value[S1][k] * stretch.value[S1][k];\n&|'
+mutant 'alarms: the products' feed.c 's|^    interval->samples \+= .*|    for (size_t k = 0; k < count; k++) square[k] = (int64_t)stretch.value[V][k] * stretch.value[S1][k];\n&|'
 mutant 'alarms: squares in 32 bits' feed.c 's|square\[k\] = v \* v;|square[k] = (uint32_t)(v * v);|'
 mutant 'alarms: squares up to 2^46 - 1' feed.c 's|square\[k\] = v \* v;|square[k] = at_most(v * v, (INT64_C(1) << 46) - 1);|'
-again='static int64_t raw[512], n; if (!module->has_previous) n = 0; '
+again='static int64_t old[512], n; if (!module->has_previous) n = 0; '
 again+='if (module->interval.samples == 0 \&\& module->card_waits) for (int64_t j = 1; j <= 512 \&\& j <= n; j++) '
-again+='{ int64_t u = corrected(raw[(n - j) % 512], module->waiting.field[VOFFS], module->waiting.field[VGAIN]).value, *s = square - j;'
-taken='for (size_t k = 0; k < count; k++) raw[n++ % 512] = voltage[k];'
+again+='{ int64_t u = corrected(old[(n - j) % 512], module->waiting.field[VOFFS], module->waiting.field[VGAIN]).value, *s = square - j;'
+taken='for (size_t k = 0; k < count; k++) old[n++ % 512] = raw[V][k];'
 mutant 'alarms: the oldest worked again with the card in force' feed.c "s|^    take_waiting_card\(module\);|    $again *s = u * u; } $taken\n&|"
 mutant 'alarms: the whole window worked again with the card in force' feed.c \
     "s|^    take_waiting_card\(module\);|    $again if (j <= (int64_t)module->alarms.half_cycle) module->alarms.sum += u * u - *s; *s = u * u; } $taken\n&|"
 mutant 'alarms: worked with the card that waits' feed.c \
-    's|^    alarms_follow|    if (module->card_waits) for (size_t k = 0; k < count; k++) { int64_t u = corrected(voltage[k], module->waiting.field[VOFFS], module->waiting.field[VGAIN]).value; square[k] = u * u; }\n&|'
+    's|^    alarms_follow|    if (module->card_waits) for (size_t k = 0; k < count; k++) { int64_t u = corrected(raw[V][k], module->waiting.field[VOFFS], module->waiting.field[VGAIN]).value; square[k] = u * u; }\n&|'
 
 # The comparison
 mutant 'alarms: sag at the level too' alarms.c 's/sags \|= above_sag;/sags |= above_sag - (alarms->sag_level != 0);/; s|bits\(above_sag < 0,|bits(above_sag < (alarms->sag_level != 0),|'
@@ -94,8 +96,8 @@ mutant 'alarms: all since the last close' close.c 's|^    module->closed.clipped
 
 # What begins the window anew
 mutant 'alarms: a close empties the window' close.c "s|^    module->closed.clipped = .*|&\n    $begin|"
-mutant 'alarms: a block empties the window' feed.c "$string; s|^    while \(done < voltages\)|    if (voltages > 0) { $begin }\n&|"
-mutant 'alarms: an empty block empties the window' feed.c "$string; s|^    while \(done < voltages\)|    if (voltages == 0) { $begin }\n&|"
+mutant 'alarms: a block empties the window' feed.c "$string; s|^    while \(done < count\)|    if (count > 0) { $begin }\n&|"
+mutant 'alarms: an empty block empties the window' feed.c "$string; s|^    while \(done < count\)|    if (count == 0) { $begin }\n&|"
 mutant 'alarms: a refused block empties the window' feed.c "$string; s|^        return 6;|        { $begin return 6; }|"
 mutant 'alarms: a new card empties the window' feed.c "$string; s|^        module->has_card = true;|&\n        $begin|"
 mutant 'alarms: a commit empties the window' module.c "s|^    module->card_waits = true;|&\n    $begin|"
@@ -108,9 +110,9 @@ mutant 'alarms: an accepted start keeps the window' console.c 's|^        \*modu
 
 # What clears an alarm
 mutant 'alarms: a close clears them' close.c "s|^    module->closed.clipped = .*|&\n    $clear|"
-mutant 'alarms: a block clears them' feed.c "s|^    while \(done < voltages\)|    if (voltages > 0) $clear\n&|"
-mutant 'alarms: an empty block clears them' feed.c "s|^    while \(done < voltages\)|    if (voltages == 0) $clear\n&|"
-mutant 'alarms: an empty block compares again' feed.c 's|^    while \(done < voltages\)|    if (voltages == 0 \&\& module->alarms.uncompared == 0 \&\& module->has_previous) module->alarms.set = (module->alarms.set \& module->alarms.sticky) \| (module->alarms.sum < module->alarms.sag_level ? SAG : 0) \| (module->alarms.sum > module->alarms.surge_level ? SURGE : 0);\n&|'
+mutant 'alarms: a block clears them' feed.c "s|^    while \(done < count\)|    if (count > 0) $clear\n&|"
+mutant 'alarms: an empty block clears them' feed.c "s|^    while \(done < count\)|    if (count == 0) $clear\n&|"
+mutant 'alarms: an empty block compares again' feed.c 's|^    while \(done < count\)|    if (count == 0 \&\& module->alarms.uncompared == 0 \&\& module->has_previous) module->alarms.set = (module->alarms.set \& module->alarms.sticky) \| (module->alarms.sum < module->alarms.sag_level ? SAG : 0) \| (module->alarms.sum > module->alarms.surge_level ? SURGE : 0);\n&|'
 mutant 'alarms: a refused block clears them' feed.c "s|^        return 6;|        { $clear return 6; }|"
 mutant 'alarms: a new card clears them' feed.c "s|^        module->has_card = true;|&\n        $clear|"
 mutant 'alarms: a commit clears them' module.c "s|^    module->card_waits = true;|&\n    $clear|"
@@ -173,23 +175,23 @@ mutant 'alarms: VSAG 8388607 refused' alarms.c 's|settings->sag <= HIGHEST|setti
 mutant 'alarms: VSAG -1 taken' alarms.c 's|settings->sag >= 0|settings->sag >= -1|'
 mutant 'alarms: VSURGE -1 taken' alarms.c 's|settings->surge >= 0|settings->surge >= -1|'
 mutant 'alarms: VSAG above VSURGE refused' alarms.c 's/^           alarm_mask_allowed\(settings->sticky\);/           (settings->sag <= settings->surge || settings->surge == 0) \&\&\n&/'
-mutant 'alarms: W above N refused' module.c 's/if \(!alarm_settings_allowed\(settings\)\)/if (!alarm_settings_allowed(settings) || settings->half_cycle > samples)/'
+mutant 'alarms: W above N refused' module.c 's/if \(!alarm_settings_allowed\(settings\)/if (settings->half_cycle > samples || !alarm_settings_allowed(settings)/'
 mutant 'alarms: any sticky mask taken' alarms.c 's/^           alarm_mask_allowed\(settings->sticky\);/           true;/'
 mutant 'alarms: a sticky mask cut to 32 bits' alarms.c 's/alarm_mask_allowed\(settings->sticky\);/alarm_mask_allowed((int32_t)settings->sticky);/'
 mutant 'alarms: a sticky mask of 24 bits taken' alarms.c 's/alarm_mask_allowed\(settings->sticky\);/(uint64_t)settings->sticky < 16777216;/'
-mutant 'alarms: a sticky mask with another bit refused with 12' module.c 's|if \(!alarm_settings_allowed\(settings\)\)|if (!alarm_mask_allowed(settings->sticky)) return 12;\n    &|'
+mutant 'alarms: a sticky mask with another bit refused with 12' module.c 's|if \(!alarm_settings_allowed\(settings\)|if (!alarm_mask_allowed(settings->sticky)) return 12;\n    &|'
 mutant 'alarms: a refused start takes the sticky mask' console.c "$refused module->alarms.sticky = settings.sticky \& (SAG \| SURGE);\n&|"
 mutant 'alarms: a refused start ends the levels' console.c "$refused { module->alarms.sag_level = 0; module->alarms.surge_level = INT64_MAX; }\n&|"
 mutant 'alarms: a refused start takes W' console.c "$refused if (settings.half_cycle > 0 \&\& settings.half_cycle < 513) module->alarms.half_cycle = (size_t)settings.half_cycle;\n&|"
-mutant 'alarms: a setting left out stays as it was' console.c 's|int64_t setting\[4\] = \{1, 0, 0, 0\};|static int64_t setting[4] = {1, 0, 0, 0};|'
-mutant 'alarms: W left out is 0' console.c 's|int64_t setting\[4\] = \{1, 0, 0, 0\};|int64_t setting[4] = {0, 0, 0, 0};|'
-mutant 'alarms: VSAG left out is 1' console.c 's|int64_t setting\[4\] = \{1, 0, 0, 0\};|int64_t setting[4] = {1, 1, 0, 0};|'
-mutant 'alarms: VSURGE left out is 8388607' console.c 's|int64_t setting\[4\] = \{1, 0, 0, 0\};|int64_t setting[4] = {1, 0, 8388607, 0};|'
-mutant 'alarms: a sticky mask left out has both' console.c 's|int64_t setting\[4\] = \{1, 0, 0, 0\};|int64_t setting[4] = {1, 0, 0, 2097664};|'
-mutant 'alarms: all settings or none' line.c 's|"nnwwwwwwoooo"|"nnwwwwwwonnn"|'
-mutant 'alarms: no setting may be left out' line.c 's|"nnwwwwwwoooo"|"nnwwwwwwnnnn"|'
-mutant 'alarms: the sticky mask not read' line.c 's|"nnwwwwwwoooo"|"nnwwwwwwooo"|'
-mutant 'alarms: a setting more' line.c 's|"nnwwwwwwoooo"|"nnwwwwwwooooo"|; s|NUMBERS_MOST|13|' line.h 's|NUMBERS_MOST = 12|NUMBERS_MOST = 13|' console.c 's|int64_t setting\[4\]|int64_t setting[5]|'
+mutant 'alarms: a setting left out stays as it was' console.c "s|$lowest|static int64_t setting[5] = {1, 0, 0, 0, 0};|"
+mutant 'alarms: W left out is 0' console.c "s|$lowest|int64_t setting[5] = {0, 0, 0, 0, 0};|"
+mutant 'alarms: VSAG left out is 1' console.c "s|$lowest|int64_t setting[5] = {1, 1, 0, 0, 0};|"
+mutant 'alarms: VSURGE left out is 8388607' console.c "s|$lowest|int64_t setting[5] = {1, 0, 8388607, 0, 0};|"
+mutant 'alarms: a sticky mask left out has both' console.c "s|$lowest|int64_t setting[5] = {1, 0, 0, 2097664, 0};|"
+mutant 'alarms: all settings or none' line.c 's|"nnwwwwwwooooo"|"nnwwwwwwonnnn"|'
+mutant 'alarms: no setting may be left out' line.c 's|"nnwwwwwwooooo"|"nnwwwwwwnnnnn"|'
+mutant 'alarms: the sticky mask and the configuration not read' line.c 's|"nnwwwwwwooooo"|"nnwwwwwwooo"|'
+mutant 'alarms: a setting more' line.c 's|"nnwwwwwwooooo"|"nnwwwwwwoooooo"|' line.h 's|NUMBERS_MOST = 13|NUMBERS_MOST = 14|'
 mutant 'alarms: a space at a start'"'"'s end taken' line.c "s/^        if \(items\[k\] == 'o' && at_end\(rest\)\)/        if (items[k] == 'o' \&\& rest->end - rest->at == 1 \&\& take_byte(rest, ' '))\n            break;\n&/"
 mutant 'alarms: an empty setting is left out' line.c "s/^    if \(is_number\(item, number\)\)/    if (what == 'o' \&\& item.length == 0)\n        return (*number = 0, NONE);\n&/"
 mutant 'alarms: VSAG and VSURGE exchanged in a start' console.c 's|\{setting\[0\], setting\[1\], setting\[2\]|{setting[0], setting[2], setting[1]|'
@@ -205,5 +207,5 @@ mutant 'alarms: surge before sag' console.c 's|fputs\(held->alarms & SAG .*|fput
 mutant 'alarms: numbers for words' console.c 's|\? " SAG" : " -"|? " 1" : " 0"|; s|\? " SURGE" : " -"|? " 1" : " 0"|'
 mutant 'alarms: the words exchanged' console.c 's|\? " SAG"|? " X"|; s|\? " SURGE"|? " SAG"|; s|\? " X"|? " SURGE"|'
 mutant 'alarms: the help without reset' words.c 's|^    "# reset MASK.*||'
-mutant 'alarms: the help without the settings' words.c 's| \[W \[VSAG \[VSURGE \[STICKY\]\]\]\]||'
+mutant 'alarms: the help without the settings' words.c 's| \[W \[VSAG \[VSURGE \[STICKY \[CONFIG\]\]\]\]\]||'
 mutant 'alarms: the words of 12 of a field alone' words.c "s|a value outside its range|a value outside its field's range|"
