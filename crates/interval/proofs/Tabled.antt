@@ -1,4 +1,4 @@
--- C1 to C12 hold for IA and for IB, and so do the figures of no load and of clipped samples: each whole table computes to what stands beside it.
+-- C1 to C12 hold for IA and for IB, and so do the figures of no load, of clipped samples and of split-phase boards: each whole table computes to what stands beside it.
 use Prim.Native.Nat.{ℕ}
 use mathlib.Core.Path.{_≡_, refl}
 use mathlib.Core.List.{List, map}
@@ -14,6 +14,7 @@ use Rattle.rules.specs.Rules.{rms, belowSquelch, activeOf, apparentOf, factorOf
 use Rattle.rules.specs.Source.{vrmsOf, currentRoot, isSquelched, irmsOf, wattOf, ipeakOf, six, figuresOf}
 use Rattle.energy.specs.Energies.{advanced, joinedBy, plusAfter, minusAfter}
 use Rattle.interval.specs.Close.{sourceAfter, sevenOf, registersAfter, numberAfter, closedOf}
+use Rattle.interval.specs.Split.{split, splitFigures}
 use Rattle.interval.specs.Figures.{plain, having, atInput, closing, vrms, figure, irms, watt, currents, volts, bothLowest, minusFive, once, twice, beyond, figures, shownRow, atFull, fives, onlyPeak, noLoadFigures, clippedIn, doubled, byHalfMore, clipFigures}
 
 pub c1-to-c12 : (w : Current) → map (λ (f : ℤ × ℤ). f .0) (figures w) ≡ map (λ (f : ℤ × ℤ). f .1) (figures w)
@@ -30,3 +31,7 @@ pub clip-figures : (w : Current) → map (λ (f : List ℕ × List ℕ). f .0) (
 unfolding clipFigures clippedIn doubled byHalfMore plain having closing voltage input sourceCurrent multiplier multipliersIn multipliersOf weighed usesBoth blended atInput voltageClipped inputClipped previous phased joined counted summed added addedAll scaled corrected wasClipped mixed in24 outside24 clipped heldWithin floorDiv closedOf
 clip-figures IA = refl
 clip-figures IB = refl
+
+pub split-figures : map (λ (f : List ℤ × List ℤ). f .0) splitFigures ≡ map (λ (f : List ℤ × List ℤ). f .1) splitFigures
+unfolding splitFigures split plain having voltage input voltageClipped inputClipped wasClipped in24 outside24 sourceCurrent multiplier multipliersIn multipliersOf weighed usesBoth blended previous phased joined counted summed added addedAll scaled corrected mixed clipped heldWithin floorDiv towardZero withSign lessened rootOf rootBy rms belowSquelch activeOf apparentOf factorOf crestOf advanced joinedBy plusAfter minusAfter vrmsOf currentRoot isSquelched irmsOf wattOf ipeakOf six figuresOf sourceAfter sevenOf registersAfter numberAfter closedOf
+split-figures = refl

@@ -1,4 +1,4 @@
--- One interval, as document 01 has it under "From samples to an interval", with A1 and A2 of document 02: its close, and the whole of it.
+-- One interval, as document 01 has it under "From samples to an interval", with A1, A2 and A5 of document 02: its close, and the whole of it.
 pub mod Close
 pub mod Whole
 pub mod Rms
@@ -6,3 +6,4 @@ pub mod NoLoad
 pub mod Clipping
 pub mod History
 pub mod Figures
+pub mod Split
