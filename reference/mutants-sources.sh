@@ -15,7 +15,6 @@ ia='\&module->interval.source[IA]'
 ib='\&module->interval.source[IB]'
 follow='^    accumulate\(&module->interval,'
 squelch='root < module->card.field\[SQUELCH\]'
-working='&module->interval.source\[which\], plain\[VA_RMS\], &module->energies\[which\]'
 refuses='if \(slice\[S1\].count != count \|\| slice\[S3\].count != count \|\| count > BLOCK_MOST\)'
 judges='if \(!in_range\(&slice\[V\]\) \|\| !in_range\(&slice\[S1\]\) \|\| !in_range\(&slice\[S3\]\)\)'
 answered='closed->clipped, '
@@ -55,7 +54,7 @@ mutant 'sources: S3 is the voltage' feed.c 's/slice\[S3\].sample \+ done/slice[V
 mutant 'sources: of the raw inputs' feed.c 's/value\[k\] = \(int32_t\)mixed\(.*/value[k] = raw[k];/'
 mutant 'sources: of the inputs before PHASE' feed.c 's/value\[k\] = \(int32_t\)mixed\(.*/value[k] = (int32_t)amps.value;/'
 without() { # FIELD VALUE
-    echo "s/$input/take_input(input == S3 ? \&other : card, before[input], raw[input]/; s/^    struct stretch stretch;/&\n    struct card other = *card;\n\n    other.field[$1] = $2;/"
+    printf '%s' "s/$input/take_input(input == S3 ? \&other : card, before[input], raw[input]/; s/^    struct stretch stretch;/&\n    struct card other = *card;\n\n    other.field[$1] = $2;/"
 }
 mutant 'sources: S3 without IOFFS' feed.c "$(without IOFFS 0)"
 mutant 'sources: S3 without IGAIN' feed.c "$(without IGAIN 2097152)"
