@@ -14,8 +14,8 @@ use Rattle.calls.proofs.Contracts.{Holds, held-by}
 
 last-told : (m : Module) (q : Port) → m .meter .work .any ≡ true → TellsOf (m .meter .work .last) (m .watch .alarms) (holdOf m (numberOf (some q)))
 unfolding holdOf portAt copied copyOf
-last-told m port0 e = rw e (record { answer = refl; number = refl; serial = refl; voltages = refl; first-inputs = refl; third-inputs = refl; sag = refl; surge = refl })
-last-told m port1 e = rw e (record { answer = refl; number = refl; serial = refl; voltages = refl; first-inputs = refl; third-inputs = refl; sag = refl; surge = refl })
+last-told m port0 e = rw e (record { answer = refl; number = refl; serial = refl; voltages = refl; of-s1 = refl; of-s3 = refl; sag = refl; surge = refl })
+last-told m port1 e = rw e (record { answer = refl; number = refl; serial = refl; voltages = refl; of-s1 = refl; of-s3 = refl; sag = refl; surge = refl })
 
 none-told : (m : Module) (q : Port) → m .meter .work .any ≡ false → holdOf m (numberOf (some q)) .answer ≡ Refused 14
 unfolding holdOf portAt copied copyOf

@@ -33,6 +33,7 @@ use Rattle.demands.specs.Day.{DayIsSo}
 pub day-is-so : DayIsSo
 unfolding startOf settingsOk askedOk levelsOk onlyAlarms namedBy limitsOf numbersOk everySlot slotOk placeOf position trackable freshOf freshModule portAt opening writing isSerial digitsOk every serialOf padded emptyCard withField isField fieldInRange fitsField lows highs finished allWritten cardOn discarded copied copyOf look registerOf byteOf words untracked slotOff shownOf registers samplesOf every24 in24 samplesIn added summed joined counted previous voltage phased input voltageClipped inputClipped sourceCurrent multiplier multipliersIn multipliersOf weighed usesBoth blended scaled corrected wasClipped mixed outside24 clipped heldWithin floorDiv closedWork lastOf closedOf numberAfter registersAfter vrmsOf rms rootOf rootBy sourceAfter figuresOf six currentRoot isSquelched irmsOf belowSquelch wattOf ipeakOf activeOf towardZero withSign lessened apparentOf factorOf crestOf plusAfter minusAfter joinedBy advanced sevenOf followed tracked further lowest highest emptied openOf writeOf commitOf dropOf holdOf readOf blockOf resetOf watchReset resetWatch clearing clearedOf meterBlock voltsOf blockDone waitOf nextCard soundOf watchSound squares seenWith watched slidSum nextPlace alarmsAfter shown sags surges sameLength flowWithin clipsWithin ofAtMost phaseInRange configOk
 day-is-so = record {
+  configurations = refl;
   shortens = refl;
   refuses = (refl, refl);
   tells = (refl, refl);

@@ -1,6 +1,6 @@
 -- A day at a site, worked through with the module itself: a program of calls by both ports and the sample feed, its shorter sequence, and what
 -- comes of both: a card dropped, one replaced before any sample, a field written twice, a clipped sample, a sag and its reset, a card still open in the
--- evening. `proofs/Day.antt` computes it. N is 2, the bucket 100; slot 1 tracks VA_RMS, the others are off. Half a cycle is 2 samples, VSAG 3,500,000,
+-- evening. `proofs/Day.antt` computes it. N is 2, the bucket 100; slot 1 tracks VA_RMS, slot 6 WATT_A, the others are off. Half a cycle is 2 samples, VSAG 3,500,000,
 -- VSURGE 4,194,303; sag is sticky, surge is not. Configuration 0x86: IA is S1, IB half of S3 - S1.
 use Prim.Native.Nat.{ℕ, suc}
 use mathlib.Core.Path.{_≡_}
@@ -29,6 +29,7 @@ use Rattle.energy.specs.declared.Energy.{Energy}
 use Rattle.interval.specs.declared.Closed.{Closed}
 use Rattle.address.specs.Slots.{off}
 use Rattle.meter.specs.Core.{core}
+use Rattle.meter.specs.Starting.{configOk}
 use Rattle.aberzhan.specs.declared.Module.{Module}
 use Rattle.desk.specs.Desks.{Edit, openWith, writeField, shutDesk}
 use Rattle.port.specs.Holds.{Value, interval, register}
@@ -99,7 +100,7 @@ abbrev pub inputs : ℤ → Inputs
 inputs s1 = record { s1 = s1; s3 = other }
 
 abbrev pub track : List WordAddr
-track = record { 0 = 0x2B } ∷ replicate 5 off
+track = record { 0 = 0x2B } ∷ replicate 4 off ++ (record { 0 = 0x4B } ∷ [])
 
 -- bit 21
 abbrev pub sagBit : ℤ
@@ -113,6 +114,8 @@ site = startOf (pos 2) (pos 100) track (record { w = pos 2; vsag = pos 3500000; 
 abbrev pub day : List Call
 day =
     callBlock (half ∷ []) (pos 60 ∷ []) (other ∷ [])  -- refused, 18: no card yet
+    ∷ callBlock (half ∷ []) (pos 60 ∷ []) []  -- refused, 5: S3 is shorter
+    ∷ callBlock (half ∷ []) (pos 60 ∷ []) (pos 8388608 ∷ [])  -- refused, 6: S3 is out of range
     ∷ callOpen fitter t0417
     ∷ callOpen fitter t0417  -- refused, 9: the port is open
     ∷ callCommit fitter  -- refused, 13: no field is written
@@ -141,6 +144,7 @@ day =
     ∷ callHold (pos 256)  -- refused, 8
     ∷ callHold panel
     ∷ callRead panel (byte 0x1B6)
+    ∷ callRead panel (byte 0xE4)  -- WATT_B
     ∷ callReset (pos 1)  -- refused, 12: bit 0 is no alarm
     ∷ callReset sagBit  -- the sag of interval 2 is over
     ∷ callOpen fitter t600  -- a card still open in the evening
@@ -165,7 +169,7 @@ shorterDay =
     ∷ card port0 (cardEdits t600 1)
     ∷ card port1 (cardEdits t601 4194304)
     ∷ plain (block (quarter ∷ half ∷ half ∷ [], pos 60 ∷ negsuc 59 ∷ tooMuch ∷ [], replicate 3 other))
-    ∷ at1 (hold tt) ∷ at1 (read (byte 0x1B6)) ∷ at1 (read (byte 0x153))
+    ∷ at1 (hold tt) ∷ at1 (read (byte 0x1B6)) ∷ at1 (read (byte 0xE4)) ∷ at1 (read (byte 0x153))
     ∷ plain (reset sagBit)
     ∷ at0 (edit (openWith t600))
     ∷ plain (block (half ∷ [], pos 60 ∷ [], other ∷ []))
@@ -186,9 +190,9 @@ surgeAlone = record { sag = false; surge = true }
 abbrev pub sagToo : Alarms
 sagToo = record { sag = true; surge = true }
 
--- five slots are off
-abbrev pub slot1 : ℕ → List ℤ
-slot1 v = pos v ∷ replicate 5 (pos 0)
+-- slots 1 and 6; four are off
+abbrev pub slots : ℕ → ℤ → List ℤ
+slots v w = pos v ∷ replicate 4 (pos 0) ++ (w ∷ [])
 
 abbrev pub energy : ℕ → ℕ → Energy
 energy count rest = record { count = count; remainder = rest }
@@ -203,7 +207,7 @@ interval1 = record {
     vrms = half;
     a = record { figures = pos 60 ∷ pos 60 ∷ pos 30 ∷ pos 30 ∷ pos 4194304 ∷ pos 65536 ∷ []; plus = energy 0 60; minus = energy 0 0 };
     b = record { figures = pos 20 ∷ pos 20 ∷ negsuc 9 ∷ pos 10 ∷ negsuc 4194303 ∷ pos 65536 ∷ []; plus = energy 0 0; minus = energy 0 20 };
-    ends = record { low = slot1 4194304; high = slot1 4194304 };
+    ends = record { low = slots 4194304 (pos 30); high = slots 4194304 (pos 30) };
   };
 }
 
@@ -217,7 +221,7 @@ interval2 = record {
     vrms = pos 3315888;
     a = record { figures = pos 60 ∷ pos 60 ∷ pos 22 ∷ pos 23 ∷ pos 4011942 ∷ pos 65536 ∷ []; plus = energy 1 4; minus = energy 0 0 };
     b = record { figures = pos 20 ∷ pos 20 ∷ negsuc 6 ∷ pos 7 ∷ negsuc 4194303 ∷ pos 65536 ∷ []; plus = energy 0 0; minus = energy 0 34 };
-    ends = record { low = slot1 3315888; high = slot1 4194304 };
+    ends = record { low = slots 3315888 (pos 22); high = slots 4194304 (pos 30) };
   };
 }
 
@@ -241,7 +245,7 @@ interval3 = record {
       plus = energy 20972 2;
       minus = energy 0 34;
     };
-    ends = record { low = slot1 3315888; high = slot1 4194304 };
+    ends = record { low = slots 3315888 (negsuc 2097181); high = slots 4194304 (pos 30) };
   };
 }
 
@@ -253,7 +257,8 @@ dayHeard = record {
   on0 = (hold tt, interval 1 s0417 noClips surgeAlone) ∷ (read (byte 0x1AD), register (pos 0)) ∷ [];
   on1 =
       (hold tt, interval 1 s0417 noClips surgeAlone) ∷ (read (byte 0xE1), register (pos 30))
-      ∷ (hold tt, interval 3 s601 (record { v = 0; s1 = 1; s3 = 0 }) sagToo) ∷ (read (byte 0x1B6), register (pos 41943)) ∷ (read (byte 0x153), register (pos 3315888)) ∷ [];
+      ∷ (hold tt, interval 3 s601 (record { v = 0; s1 = 1; s3 = 0 }) sagToo) ∷ (read (byte 0x1B6), register (pos 41943))
+      ∷ (read (byte 0xE4), register (pos 1048601)) ∷ (read (byte 0x153), register (pos 3315888)) ∷ [];
 }
 
 abbrev pub card601 : Card
@@ -320,9 +325,11 @@ abbrev pub shorterSteps : List (Step aberzhan)
 shorterSteps = stepsOf aberzhan shorterDay
 
 pub record DayIsSo : Type 0 where
+  -- a configuration is 0 to 255
+  pub configurations : map configOk (negsuc 0 ∷ pos 0 ∷ pos 255 ∷ pos 256 ∷ []) ≡ false ∷ true ∷ true ∷ false ∷ []
   pub shortens : shorter aberzhan (stateOf site) (asked aberzhan methods site day) ≡ shorterDay
-  -- eleven calls of the day are refused (18, 9, 13, 12, 11, 14, 15, 16, 17, 8, 12), and none of the shorter day
-  pub refuses : (program day site .refusals ≡ 11) × (program (map callOf shorterSteps) site .refusals ≡ 0)
+  -- thirteen calls of the day are refused (18, 5, 6, 9, 13, 12, 11, 14, 15, 16, 17, 8, 12), and none of the shorter day
+  pub refuses : (program day site .refusals ≡ 13) × (program (map callOf shorterSteps) site .refusals ≡ 0)
   pub tells : (program day site .heard ≡ dayHeard) × (program (map callOf shorterSteps) site .heard ≡ dayHeard)
   pub closes : (runOf aberzhan methods site day .closed ≡ dayClosed) × (run aberzhan shorterSteps (stateOf site) .closed ≡ dayClosed)
   pub leaves : (program day site .end ≡ evening) × (program (map callOf shorterSteps) site .end ≡ evening)

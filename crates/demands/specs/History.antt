@@ -1,6 +1,6 @@
--- Of every closed interval of every program: VRMS and each source's IRMS are roots of its mean squares; a source's root and the card's SQUELCH alone decide
--- whether the source is squelched, and no energy comes of it then; its counts are of its own clipped samples; its number counts the closes; minima and maxima are those of all
--- that closed so far.
+-- Of every closed interval of every program: VRMS and each source's IRMS are roots of the interval's mean squares; a source's root and the card's
+-- SQUELCH alone decide whether that source is squelched, and no energy comes of it then; the interval's counts are of its own clipped samples; its
+-- number counts the closes; minima and maxima are those of all that closed so far.
 use mathlib.Core.List.{List, [], _∷_}
 use mathlib.Core.Option.{Option, none, some}
 use Rattle.steps.specs.OneCard.{Interval}

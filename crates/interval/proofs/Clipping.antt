@@ -52,8 +52,8 @@ clipped-by first t c before xs old =
     let s3 : Sample → ℤ = λ x. x .1 .s3 in
     record {
       voltages = how-many v (voffs c) (vgain c) xs;
-      first-inputs = how-many s1 (ioffs c) (igain c) xs;
-      third-inputs = how-many s3 (ioffs c) (igain c) xs;
+      of-s1 = how-many s1 (ioffs c) (igain c) xs;
+      of-s3 = how-many s3 (ioffs c) (igain c) xs;
       v-most = at-most v (voffs c) (vgain c) xs;
       s1-most = at-most s1 (ioffs c) (igain c) xs;
       s3-most = at-most s3 (ioffs c) (igain c) xs;

@@ -18,8 +18,8 @@ pub data HowMany (So : Sample → Type 0) : List Sample → ℕ → Type 0 where
 -- many as there are. The raw inputs before the first sample have no part in it, nor has any interval before, nor what the sources are made of
 pub record ClippedBy (c : Card) (xs : List Sample) (z : Closed) : Type 0 where
   pub voltages : HowMany (λ x. Beyond (x .0) (voffs c) (vgain c)) xs (z .clips .v)
-  pub first-inputs : HowMany (λ x. Beyond (x .1 .s1) (ioffs c) (igain c)) xs (z .clips .s1)
-  pub third-inputs : HowMany (λ x. Beyond (x .1 .s3) (ioffs c) (igain c)) xs (z .clips .s3)
+  pub of-s1 : HowMany (λ x. Beyond (x .1 .s1) (ioffs c) (igain c)) xs (z .clips .s1)
+  pub of-s3 : HowMany (λ x. Beyond (x .1 .s3) (ioffs c) (igain c)) xs (z .clips .s3)
   pub v-most : z .clips .v ≤ length xs
   pub s1-most : z .clips .s1 ≤ length xs
   pub s3-most : z .clips .s3 ≤ length xs

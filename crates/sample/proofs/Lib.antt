@@ -6,4 +6,5 @@ pub mod Ranges
 pub mod Rooms
 pub mod Slices
 pub mod Tests
+pub mod Figures
 pub mod Decided

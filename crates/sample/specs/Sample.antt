@@ -52,7 +52,7 @@ voltage c raw = corrected raw (voffs c) (vgain c)
 unfoldable pub input : Card → ℤ → ℤ
 input c raw = corrected raw (ioffs c) (igain c)
 
--- whether the card clips a raw voltage, and a raw input; a mix of two corrected inputs is never clipped
+-- whether the card clips a raw voltage, and a raw input; an input mixed with its own previous one is never clipped
 unfoldable pub voltageClipped : Card → ℤ → Bool
 voltageClipped c raw = wasClipped raw (voffs c) (vgain c)
 

@@ -13,7 +13,7 @@ use Rattle.steps.specs.Parts.{Parts}
 pub record Gauge : Type 1 where
   pub Card : Type 0
   pub Block : Type 0  -- what a block lends
-  pub Sample : Type 0  -- one voltage and one current
+  pub Sample : Type 0  -- what came at one moment
   pub Work : Type 0  -- start settings, the sums of the interval, and what outlives it: registers, energy, the previous raw sample
   pub Closed : Type 0  -- a closed interval with all its registers
   pub Watch : Type 0  -- what watches the samples, beside the intervals: the last of them and the alarms
