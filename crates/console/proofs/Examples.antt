@@ -25,7 +25,8 @@ use Rattle.console.specs.Items.{worthIn, nextOf, rowOf, several}
 use Rattle.console.specs.Words.{itemsOf}
 use Rattle.console.specs.Unread.{whyWords, stoppedBefore, sliceStopped, packetStopped}
 use Rattle.console.specs.Turns.{barely, steppedTurn, polledTurn, askedOf, startTurn, withItems, packetTurn, withPacket, sliceTurn, s3Turn, withSamples}
-use Rattle.console.specs.Answers.{end, unreadLine, refusedLine, valueLine, digitsText, cardText, countText, clipsText, alarmsText, heldLine, hexDigit, bytesText, replyLine, cardsLine, saidText, toldText}
+use Rattle.console.specs.Answers.{end, unreadLine, refusedLine, valueLine, digitsText, cardText, countText, clipsText, alarmsText, heldLine}
+use Rattle.console.specs.Answers.{hexDigit, bytesText, replyLine, cardsLine, saidText, toldText}
 
 refused : toldText (barely (said.Refused 16)) ≡ ascii "REFUSED 16: no register has this byte address" ++ end
 unfolding toldText saidText refusedLine decimal digits ascii wordsOf table
@@ -52,7 +53,8 @@ held-none : heldLine 1 label noClips noAlarms ≡ ascii "ok 1 0417 0 0 0 - -" ++
 unfolding heldLine digitsText clipsText countText alarmsText decimal digits ascii
 held-none = refl
 
-held-all : heldLine 2 label (record { v = 4096; s1 = 4096; s3 = 4096 }) (record { sag = true; surge = true }) ≡ ascii "ok 2 0417 4096 4096 4096 SAG SURGE" ++ end
+held-all : heldLine 2 label (record { v = 4096; s1 = 4096; s3 = 4096 }) (record { sag = true; surge = true })
+    ≡ ascii "ok 2 0417 4096 4096 4096 SAG SURGE" ++ end
 unfolding heldLine digitsText clipsText countText alarmsText decimal digits ascii
 held-all = refl
 
@@ -104,11 +106,13 @@ module _ (m : Module) where
   start-long = refl
 
   -- its configuration stands last; left out it is 0
-  start-configured : withItems m word.Start (ascii " 1 1 0 0 0 0 0 0 1 0 0 0 0x96") ≡ startTurn m (pos 1 ∷ pos 1 ∷ replicate 6 (pos 0) ++ pos 1 ∷ pos 0 ∷ pos 0 ∷ pos 0 ∷ pos 150 ∷ [])
+  start-configured : withItems m word.Start (ascii " 1 1 0 0 0 0 0 0 1 0 0 0 0x96")
+      ≡ startTurn m (pos 1 ∷ pos 1 ∷ replicate 6 (pos 0) ++ pos 1 ∷ pos 0 ∷ pos 0 ∷ pos 0 ∷ pos 150 ∷ [])
   unfolding withItems rowOf itemsOf nextOf worthIn valueOf beginsWith lengthTo digitsOf worthBehind digitOf positive registerNamed namedIn spelled registers sameText every stoppedBefore ascii
   start-configured = refl
 
-  start-unconfigured : withItems m word.Start (ascii " 1 1 0 0 0 0 0 0") ≡ startTurn m (pos 1 ∷ pos 1 ∷ replicate 6 (pos 0) ++ pos 1 ∷ pos 0 ∷ pos 0 ∷ pos 0 ∷ pos 0 ∷ [])
+  start-unconfigured : withItems m word.Start (ascii " 1 1 0 0 0 0 0 0")
+      ≡ startTurn m (pos 1 ∷ pos 1 ∷ replicate 6 (pos 0) ++ pos 1 ∷ pos 0 ∷ pos 0 ∷ pos 0 ∷ pos 0 ∷ [])
   unfolding withItems rowOf itemsOf nextOf worthIn valueOf beginsWith lengthTo digitsOf worthBehind digitOf positive registerNamed namedIn spelled registers sameText every stoppedBefore ascii
   start-unconfigured = refl
 

@@ -29,7 +29,8 @@ use Rattle.console.specs.Texts.{beginsWith, lengthTo}
 use Rattle.console.specs.Items.{rowOf, samples, bytes, Filled}
 use Rattle.console.specs.Words.{wordOf, itemsOf, enough}
 use Rattle.console.specs.Unread.{stoppedBefore, sliceStopped, packetStopped}
-use Rattle.console.specs.Turns.{noReply, nth, unreadTurn, steppedTurn, toldReply, polledTurn, itemsTurn, withItems, withText, packetTurn, barred, sliceTurn, s3Turn, wordTurn, turnOf}
+use Rattle.console.specs.Turns.{noReply, nth, unreadTurn, steppedTurn, toldReply, polledTurn, itemsTurn, withItems, withText, packetTurn}
+use Rattle.console.specs.Turns.{barred, sliceTurn, s3Turn, wordTurn, turnOf}
 use Rattle.console.specs.Inside.{Ended, Stopped}
 use Rattle.console.proofs.words.Word as Word-type
 use Rattle.console.proofs.TextLaws.{begins-within}
@@ -228,6 +229,7 @@ module _ (a b c : ℕ) (m : Module) (line : List ℕ) where
   unfolding turnOf
   long-line h = simp (lt-ltb 131071 (length line) h)
 
-  pub line-with : (w : Word) → wordOf (take (lengthTo 32 line) line) ≡ w → length line ≤ 131071 → wordTurn a b c m w (drop (lengthTo 32 line) line) ≡ turnOf a b c m line
+  pub line-with : (w : Word) → wordOf (take (lengthTo 32 line) line) ≡ w → length line ≤ 131071 →
+      wordTurn a b c m w (drop (lengthTo 32 line) line) ≡ turnOf a b c m line
   unfolding turnOf
   line-with w e h = simp (le-ltb 131071 (length line) h) (ap (λ (u : Word). wordTurn a b c m u (drop (lengthTo 32 line) line)) (sym e))

@@ -216,15 +216,17 @@ s3-kept : (c : ℕ) (m : Module) (v s1 : List ℤ) (text : List ℕ) → Keeps m
 unfolding s3Turn
 s3-kept c m v s1 text =
     let s3 = rowOf (samples c) text in
-    either m (ltb (s3 .bytes) (length text)) (unreadTurn m (sliceStopped c (length (s3 .values)) (drop (s3 .bytes) text))) (steppedTurn (blockOf m v s1 (s3 .values)))
-    (λ e. refl) (block-kept m v s1 (s3 .values))
+    let stops = unreadTurn m (sliceStopped c (length (s3 .values)) (drop (s3 .bytes) text)) in
+    either m (ltb (s3 .bytes) (length text)) stops (steppedTurn (blockOf m v s1 (s3 .values))) (λ e. refl) (block-kept m v s1 (s3 .values))
 
-slice-kept : (room : ℕ) (m : Module) (text : List ℕ) (more : List ℤ → List ℕ → Turn) → ((x : List ℤ) (rest : List ℕ) → Keeps m (more x rest)) → Keeps m (sliceTurn room m text more)
+slice-kept : (room : ℕ) (m : Module) (text : List ℕ) (more : List ℤ → List ℕ → Turn) → ((x : List ℤ) (rest : List ℕ) → Keeps m (more x rest)) →
+    Keeps m (sliceTurn room m text more)
 unfolding sliceTurn
 slice-kept room m text more h =
     let row = rowOf (samples room) text in
     let behind = drop (row .bytes) text in
-    either m (barred behind) (more (row .values) (drop 2 behind)) (unreadTurn m (sliceStopped room (length (row .values)) behind)) (h (row .values) (drop 2 behind)) (λ e. refl)
+    let stops = unreadTurn m (sliceStopped room (length (row .values)) behind) in
+    either m (barred behind) (more (row .values) (drop 2 behind)) stops (h (row .values) (drop 2 behind)) (λ e. refl)
 
 samples-kept : (a b c : ℕ) (m : Module) (rest : List ℕ) → Keeps m (withSamples a b c m rest)
 samples-kept a b c m rest = slice-kept a m rest (s1Turn b c m) (λ v text. slice-kept b m text (s3Turn c m v) (λ s1 last. s3-kept c m v s1 last))

@@ -40,7 +40,11 @@ start-kind (suc (suc (suc (suc (suc (suc (suc (suc (suc (suc zero)))))))))) = re
 start-kind (suc (suc (suc (suc (suc (suc (suc (suc (suc (suc (suc zero))))))))))) = refl
 start-kind (suc (suc (suc (suc (suc (suc (suc (suc (suc (suc (suc (suc zero)))))))))))) = refl
 start-kind (suc (suc (suc (suc (suc (suc (suc (suc (suc (suc (suc (suc (suc k))))))))))))) =
-    rw (le-leb 2 (suc (suc (suc (suc (suc (suc (suc (suc (suc (suc (suc (suc (suc k))))))))))))) (omega arith), le-ltb (suc (suc (suc (suc (suc (suc (suc (suc (suc (suc (suc (suc (suc k))))))))))))) 8 (omega arith)) refl
+    rw (
+      le-leb 2 (suc (suc (suc (suc (suc (suc (suc (suc (suc (suc (suc (suc (suc k))))))))))))) (omega arith),
+      le-ltb (suc (suc (suc (suc (suc (suc (suc (suc (suc (suc (suc (suc (suc k))))))))))))) 8 (omega arith),
+    )
+    refl
 
 pub write-number : (k : ℕ) → k < 3 → (k ≡ 1 → ⊥) → getD (itemsOf Write) k kind.Number ≡ kind.Number
 unfolding itemsOf

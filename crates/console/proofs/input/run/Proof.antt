@@ -9,8 +9,8 @@ use Rattle.console.proofs.input.run.Tie as tie
 
 abbrev Inv-loop : tie.InvT-loop
 Inv-loop chunk₀ line₀ v₀ s1₀ s3₀ out₀ m₀ turns₀ chunk line v s1 s3 out m turns =
-    Ready (m .session) line out v s1 s3 (length chunk) × (length chunk ≡ length chunk₀) × (length line ≡ length line₀) × (length v ≡ length v₀) × (length s1 ≡ length s1₀)
-    × (length s3 ≡ length s3₀) × (length out ≡ length out₀)
+    Ready (m .session) line out v s1 s3 (length chunk) × (length chunk ≡ length chunk₀) × (length line ≡ length line₀) × (length v ≡ length v₀)
+    × (length s1 ≡ length s1₀) × (length s3 ≡ length s3₀) × (length out ≡ length out₀)
 
 abbrev μ-loop : tie.MeasureT-loop
 μ-loop chunk₀ line₀ v₀ s1₀ s3₀ out₀ m₀ turns₀ chunk line v s1 s3 out m turns = turns

@@ -23,8 +23,23 @@ abbrev μ-loop : tie.MeasureT-loop
 
 loop-holds : tie.Need-loop-holds Inv-loop μ-loop
 loop-holds c =
-    let r = c .before .before .before .pre in
-    (record { kept = r .kept; used = omega (arith, r .used); line-room = r .line-room; v-room = r .v-room; s1-room = r .s1-room; s3-room = r .s3-room }, omega arith, refl, refl, refl, refl, refl, refl)
+    let r = c .before .before .before .pre in (
+      record {
+        kept = r .kept;
+        used = omega (arith, r .used);
+        line-room = r .line-room;
+        v-room = r .v-room;
+        s1-room = r .s1-room;
+        s3-room = r .s3-room;
+      },
+      omega arith,
+      refl,
+      refl,
+      refl,
+      refl,
+      refl,
+      refl,
+    )
 
 sub-length-to : tie.Need-sub-length-to Inv-loop μ-loop
 sub-length-to c = omega arith

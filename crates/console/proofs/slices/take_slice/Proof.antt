@@ -1,7 +1,7 @@
 -- `take_slice` is a slice of a block with the bar behind it.
 use Prim.Native.Nat.{ℕ, _-_, _≤_}
 use mathlib.Core.Path.{_≡_, sym, ap, _∙_}
-use mathlib.Core.List.{[], _∷_}
+use mathlib.Core.List.{List, [], _∷_}
 use native.Mathlib.Omega.{arith}
 use lib.ListN.{length, take, drop, length-drop}
 use Rattle.console.specs.declared.words.Kind.the-variants as kind
@@ -15,16 +15,26 @@ use borrow.Author.Needs.{needs}
 use Rattle.console.proofs.slices.take_slice.Statement.{statement}
 use Rattle.console.proofs.slices.take_slice.Tie as tie
 
-inside : (c : tie.After-take-samples) → c .take-samples .result .taken ≤ length (c .before .before .before .args .text .now)
-inside c = rw (c .take-samples .ensures .bytes) (row-within (samples (length (c .before .before .before .args .into .now))) (c .before .before .before .args .text .now))
+abbrev start : tie.After-take-samples → tie.Start
+start c = c .before .before .before
+
+inside : (c : tie.After-take-samples) → c .take-samples .result .taken ≤ length (start c .args .text .now)
+inside c = omega (arith, c .take-samples .ensures .bytes, row-within (samples (length (start c .args .into .now))) (start c .args .text .now))
 
 room : (c : tie.After-take-samples) → c .take-samples .result .count ≤ length (c .take-samples .last .1 .0)
 room c =
-    let most = length (c .before .before .before .args .into .now) in
-    omega (arith, c .take-samples .ensures .count, row-count (samples most) (c .before .before .before .args .text .now), several-long kind.Sample most, c .take-samples .kept .1 .0)
+    let t = c .take-samples in
+    let most = length (start c .args .into .now) in
+    omega (arith, t .ensures .count, row-count (samples most) (start c .args .text .now), several-long kind.Sample most, t .kept .1 .0)
 
-bar : (c : tie.After-begins) → c .begins .result ≡ barred (drop (c .before .before .before .before .take-samples .result .taken) (c .before .before .before .before .before .before .before .args .text .now))
-bar c = c .begins .ensures ∙ ap barred (rest-of (c .before .before .before .before .take-samples .result .taken) (c .before .before .before .before .before .before .before .args .text .now))
+-- what stands behind the samples
+abbrev behind : tie.After-take-samples → List ℕ
+behind c = drop (c .take-samples .result .taken) (start c .args .text .now)
+
+bar : (c : tie.After-begins) → c .begins .result ≡ barred (behind (c .before .before .before .before))
+bar c =
+    let t = c .before .before .before .before in
+    c .begins .ensures ∙ ap barred (rest-of (t .take-samples .result .taken) (start t .args .text .now))
 
 take-samples-requires : tie.Need-take-samples-requires
 take-samples-requires c κs = search needs
@@ -46,9 +56,9 @@ begins-requires c κs = search needs
 
 add-t16 : tie.Need-add-t16
 add-t16 c =
-    let text = c .before .before .before .before .before .before .before .before .args .text .now in
-    let at = c .before .before .before .before .before .take-samples .result .taken in
-    omega (arith, c .before .before .before .before .before .before .before .before .good, begins-within (32 ∷ 124 ∷ []) (drop at text) (sym (bar (c .before)) ∙ c .if1 .taken), length-drop at text)
+    let t = c .before .before .before .before .before in
+    let two = begins-within (32 ∷ 124 ∷ []) (behind t) (sym (bar (c .before)) ∙ c .if1 .taken) in
+    omega (arith, start t .good, two, length-drop (t .take-samples .result .taken) (start t .args .text .now))
 
 same-length : tie.Need-same-length
 same-length c = search needs
@@ -68,10 +78,11 @@ returns-2 : tie.Need-returns-2
 returns-2 c =
     let t = c .before .before .before .before .before .before .take-samples in
     let at = t .result .taken in
-    let text = c .before .before .before .before .before .before .before .before .before .args .text .now in
+    let a = start (c .before .before .before .before .before .before) .args in
+    let text = a .text .now in
     slice-stops _ _ _ _ _ (t .ensures) _ (sym (bar (c .before .before)) ∙ c .before .if1 .left)
     (c .slice-stopped .ensures ∙ ap (λ (n : ℕ). sliceStopped n (t .result .count) (take (length text - at) (drop at text))) (t .kept .1 .0)
-    ∙ ap (sliceStopped (length (c .before .before .before .before .before .before .before .before .before .args .into .now)) (t .result .count)) (rest-of at text))
+    ∙ ap (sliceStopped (length (a .into .now)) (t .result .count)) (rest-of at text))
 
 pub take-slice-spec : {M : Type 1} → statement M
 take-slice-spec =

@@ -3,23 +3,27 @@ use mathlib.Core.Path.{sym, ap, subst, _∙_}
 use lib.ListN.{length}
 use lib.Seq.{length-take-le}
 use Rattle.console.specs.declared.slices.Slice.{Slice}
+use Rattle.console.specs.declared.slices.Slice.the-variants.{Ends, Stops}
 use Rattle.console.specs.Turns.{s3Turn}
-use Rattle.console.specs.Inside.{Ended, Stopped, Sliced}
+use Rattle.console.specs.Inside.{Sliced}
 use Rattle.console.proofs.TextLaws.{rest-of}
 use Rattle.console.proofs.TurnLaws.{slice-more, slice-not}
 use borrow.Author.Needs.{needs}
 use Rattle.console.proofs.turns.with_s1.Statement.{statement}
 use Rattle.console.proofs.turns.with_s1.Tie as tie
 
-ended : (c : tie.After-known-told) → let z = c .before .count .given .0 in Ended (z .0) (z .1 .0) (length (c .before .before .before .before .before .before .before .args .s1 .now)) (c .before .before .before .before .before .before .before .args .text .now) (c .before .before .before .before .take-slice .last .1 .0)
-ended c =
-    let t = c .before .before .before .before .take-slice in
-    subst (λ (s : Slice). Sliced s (length (c .before .before .before .before .before .before .before .args .s1 .now)) (c .before .before .before .before .before .before .before .args .text .now) (t .last .1 .0)) (c .before .count .given .1) (t .ensures)
+abbrev start : tie.After-take-slice → tie.Start
+start c = c .before .before .before
 
-stops : (c : tie.After-known-told2) → Stopped (c .before .why .given .0 .0) (length (c .before .before .before .before .before .before .before .args .s1 .now)) (c .before .before .before .before .before .before .before .args .text .now)
-stops c =
-    let t = c .before .before .before .before .take-slice in
-    subst (λ (s : Slice). Sliced s (length (c .before .before .before .before .before .before .before .args .s1 .now)) (c .before .before .before .before .before .before .before .args .text .now) (t .last .1 .0)) (c .before .why .given .1) (t .ensures)
+-- what is known of a slice that was taken
+abbrev known : tie.After-take-slice → Slice → Type 0
+known c s = Sliced s (length (start c .args .s1 .now)) (start c .args .text .now) (c .take-slice .last .1 .0)
+
+ended : (c : tie.After-known-told) → let z = c .before .count .given .0 in known (c .before .before .before .before) (Ends (z .0) (z .1 .0))
+ended c = subst (known (c .before .before .before .before)) (c .before .count .given .1) (c .before .before .before .before .take-slice .ensures)
+
+stops : (c : tie.After-known-told2) → known (c .before .before .before .before) (Stops (c .before .why .given .0 .0))
+stops c = subst (known (c .before .before .before .before)) (c .before .why .given .1) (c .before .before .before .before .take-slice .ensures)
 
 take-slice-requires : tie.Need-take-slice-requires
 take-slice-requires c κs = search needs

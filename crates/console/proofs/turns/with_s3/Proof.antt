@@ -16,8 +16,14 @@ use borrow.Author.Needs.{needs}
 use Rattle.console.proofs.turns.with_s3.Statement.{statement}
 use Rattle.console.proofs.turns.with_s3.Tie as tie
 
+abbrev start : tie.After-take-samples → tie.Start
+start c = c .before .before .before
+
 room : (c : tie.After-take-samples) → c .take-samples .result .count ≤ length (c .take-samples .last .1 .0)
-room c = omega (arith, c .take-samples .ensures .count, row-count (samples (length (c .before .before .before .args .s3 .now))) (c .before .before .before .args .text .now), several-long kind.Sample (length (c .before .before .before .args .s3 .now)), c .take-samples .kept .1 .0)
+room c =
+    let t = c .take-samples in
+    let most = length (start c .args .s3 .now) in
+    omega (arith, t .ensures .count, row-count (samples most) (start c .args .text .now), several-long kind.Sample most, t .kept .1 .0)
 
 take-samples-requires : tie.Need-take-samples-requires
 take-samples-requires c κs = search needs
@@ -43,9 +49,13 @@ same-length c = search needs
 returns : tie.Need-returns
 returns c =
     let t = c .before .before .before .before .before .take-samples in
+    let a = start (c .before .before .before .before .before) .args in
+    let at = t .result .taken in
+    let text = a .text .now in
     c .unread .ensures
-    ∙ ap (λ (w : Why). unreadTurn (c .before .before .before .before .before .before .before .before .args .m) w)
-    (c .before .slice-stopped .ensures ∙ ap (λ (n : ℕ). sliceStopped n (t .result .count) (take (length (c .before .before .before .before .before .before .before .before .args .text .now) - t .result .taken) (drop (t .result .taken) (c .before .before .before .before .before .before .before .before .args .text .now)))) (t .kept .1 .0) ∙ ap (sliceStopped (length (c .before .before .before .before .before .before .before .before .args .s3 .now)) (t .result .count)) (rest-of (t .result .taken) (c .before .before .before .before .before .before .before .before .args .text .now)))
+    ∙ ap (λ (w : Why). unreadTurn (a .m) w)
+    (c .before .slice-stopped .ensures ∙ ap (λ (n : ℕ). sliceStopped n (t .result .count) (take (length text - at) (drop at text))) (t .kept .1 .0)
+    ∙ ap (sliceStopped (length (a .s3 .now)) (t .result .count)) (rest-of at text))
     ∙ odd-sample _ _ _ _ _ _ _ _ (t .ensures) (c .before .before .before .if1 .taken)
 
 slice-reshare-prefix-block : tie.Need-slice-reshare-prefix-block
@@ -64,7 +74,9 @@ same-length-2 : tie.Need-same-length-2
 same-length-2 c = search needs
 
 returns-2 : tie.Need-returns-2
-returns-2 c = c .stepped .ensures ∙ ap steppedTurn (c .before .block .ensures) ∙ whole-block _ _ _ _ _ _ _ _ (c .before .before .before .before .before .take-samples .ensures) (c .before .before .before .if1 .left)
+returns-2 c =
+    let t = c .before .before .before .before .before .take-samples in
+    c .stepped .ensures ∙ ap steppedTurn (c .before .block .ensures) ∙ whole-block _ _ _ _ _ _ _ _ (t .ensures) (c .before .before .before .if1 .left)
 
 pub with-s3-spec : {M : Type 1} → statement M
 with-s3-spec =
