@@ -37,7 +37,12 @@ follow-requires c κs = search needs
 
 returns : tie.Need-returns
 unfolding registersAfter
-returns c = rw (c .follow .ensures, c .before .before .before .seven-of .ensures, c .before .before .before .before .before .before .after .ensures, c .before .before .before .before .before .after2 .ensures, read-small (c .before .before .before .before .before .before .before .vrms .result) (volts-most (c .before .before .before .before .before .before .before)), capped-is (c .before .before .before .before .before .before .before), c .before .before .before .before .before .before .before .vrms .ensures)
+returns c =
+    let seven = c .before .before .before in
+    let b = seven .before .before in
+    let a = b .before in
+    let v = a .before in
+    rw (c .follow .ensures, seven .seven-of .ensures, a .after .ensures, b .after2 .ensures, read-small (v .vrms .result) (volts-most v), capped-is v, v .vrms .ensures)
 
 pub after-spec : {M : Type 1} → statement M
 after-spec =
