@@ -1,7 +1,7 @@
 -- A day at a site, worked through with the module itself: a program of calls by both ports and the sample feed, its shorter sequence, and what
 -- comes of both: a card dropped, one replaced before any sample, a field written twice, a clipped sample, a sag and its reset, a card still open in the
--- evening. `proofs/Day.antt` computes it. N is 2, the bucket 100; slot 1 tracks VA_RMS, slot 6 WATT_A, the others are off. Half a cycle is 2 samples, VSAG 3,500,000,
--- VSURGE 4,194,303; sag is sticky, surge is not. Configuration 0x86: IA is S1, IB half of S3 - S1.
+-- evening. `proofs/Day.antt` computes it. N is 2, the bucket 100; slot 1 tracks VA_RMS, slot 6 WATT_A, the others are off. Half a cycle is 2 samples,
+-- VSAG 3,500,000, VSURGE 4,194,303; sag is sticky, surge is not. Configuration 0x86: IA is S1, IB half of S3 - S1.
 use Prim.Native.Nat.{ℕ, suc}
 use mathlib.Core.Path.{_≡_}
 use mathlib.Core.Bool.{true, false}
@@ -137,7 +137,7 @@ day =
     ∷ writes panel (cardEdits t601 4194304)
     ++ (callRead panel (byte 0xE1)
     ∷ callCommit panel  -- card 601 replaces 600, which no sample met
-    ∷ callBlock (quarter ∷ half ∷ half ∷ []) (pos 60 ∷ negsuc 59 ∷ tooMuch ∷ []) (replicate 3 other)  -- closes interval 2, still with card 0417, and interval 3 with card 601
+    ∷ callBlock (quarter ∷ half ∷ half ∷ []) (pos 60 ∷ negsuc 59 ∷ tooMuch ∷ []) (replicate 3 other)  -- closes interval 2, with card 0417, and 3, with 601
     ∷ callRead fitter (byte 0x1AD)  -- as it was at the fitter's hold
     ∷ callRead fitter (byte 0x154)  -- refused, 16
     ∷ callRead fitter (byte 0x156)  -- refused, 17: slot 2 is off

@@ -18,7 +18,7 @@ use Rattle.rules.specs.Source.{vrmsOf}
 use Rattle.interval.specs.declared.Settings.{Settings}
 use Rattle.interval.specs.declared.Closed.{Closed}
 use Rattle.sample.specs.Sample.{voltage, voltageClipped, inputClipped, sourceCurrent}
-use Rattle.sample.specs.Sums.{Sample, joined, oneIf, counted, previous, summed, added, addedAll, emptied, noFlow, noClips}
+use Rattle.sample.specs.Sums.{Sample, joined, oneIf, counted, previous, summed, added, addedAll, emptied, noFlow}
 use Rattle.interval.specs.Whole.{Worked, worked, total, balance, largest, voltageSquares, flowOf, clipsOf, lastRaw, sumsOf, intervalOf}
 use Rattle.interval.specs.Close.{sourceAfter, resultsOf, registersAfter, closedOf}
 

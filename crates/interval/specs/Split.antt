@@ -77,7 +77,8 @@ splitFigures =
           ∷ pos 36 ∷ pos 51 ∷ negsuc 24 ∷ pos 35 ∷ negsuc 2995930 ∷ pos 92842 ∷ pos 0 ∷ pos 50
           ∷ pos 0 ∷ pos 0 ∷ pos 0 ∷ [],
     )
-    -- PHASE 2,048 mixes each input with its own previous one, and only then are they added: 1 + 1 from 1.5 each, so P is 3; were IA and IB made first, 3 would come of it, and P 4
+    -- PHASE 2,048 mixes each input with its own previous one, and only then are they added: 1 + 1 from 1.5 each, so P is 3;
+    -- were IA and IB made first, 3 would come of it, and P 4
     ∷ (
       split (having 5 (pos 2048) plain) 0xFF (raw (pos 8388607) (pos 3) (pos 3) ∷ raw (pos 8388607) (pos 0) (pos 0) ∷ []),
       pos 8388607

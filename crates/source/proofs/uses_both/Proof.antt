@@ -1,5 +1,5 @@
 -- `uses_both` meets its contract.
-use mathlib.Core.Bool.{Bool, not, _&&_}
+use mathlib.Core.Bool.{not, _&&_}
 use mathlib.Core.Path.{ap, ap₂}
 use mir.Syntax.{w8}
 use mir.Val.{SFits}

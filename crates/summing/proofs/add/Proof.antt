@@ -8,7 +8,6 @@ use mir.Val.{SFits}
 use mir.Syntax.{w32}
 use mathlib.Core.Path.{_≡_, _∙_}
 use native.Mathlib.Omega.{arith}
-use Prim.Native.Nat.{_*_, _^_, _≤_}
 use borrow.Author.Needs.{needs}
 use Rattle.summing.proofs.add.Statement.{statement}
 use Rattle.summing.proofs.add.Tie as tie

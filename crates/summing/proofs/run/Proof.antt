@@ -8,7 +8,7 @@ use mir.Facts.{toZ-ofZ}
 use mir.Val.{SFits}
 use mir.Syntax.{w32}
 use native.Mathlib.Omega.{arith}
-use lib.ListN.{getD, length}
+use lib.ListN.{getD}
 use lib.IntN.{pos}
 use denote.Ref.{now}
 use mathlib.Core.Path.{sym, ap, _∙_}

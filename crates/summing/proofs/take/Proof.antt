@@ -4,7 +4,6 @@ use Rattle.sample.proofs.Corrections.{corrected-in}
 use Rattle.sample.specs.Sample.{correction}
 use Rattle.source.specs.Sources.{blended}
 use Rattle.source.proofs.Blends.{blended-in}
-use Rattle.range.proofs.Ranges.{in-fits, in-mag}
 use borrow.Author.Needs.{sfits-of}
 use mir.Facts.{toZ-ofZ}
 use mir.Val.{SFits}

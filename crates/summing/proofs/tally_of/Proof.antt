@@ -1,6 +1,5 @@
 -- `tally_of` meets its contract.
 use Rattle.summing.specs.Inside.{packed, tallyOf}
-use native.Mathlib.Omega.{arith}
 use mathlib.Core.Path.{refl}
 use borrow.Author.Needs.{needs}
 use Rattle.summing.proofs.tally_of.Statement.{statement}
