@@ -15,7 +15,7 @@ packed-more : (k : Clips) (x y z : Bool) → oneMore (packed k) x y z ≡ packed
 unfolding oneMore packed counted
 packed-more k x y z = omega arith
 
-pub tally-more : (s : Sums) (v ia ib : ℤ) (x y z : Bool) (raw : Inputs) → joinedTo (tallyOf s) v ia ib x y z ≡ tallyOf (summed s v ia ib x y z raw)
+pub tally-more : (s : Sums) (v ia ib : ℤ) (x y z : Bool) (raw : Inputs) → joinedTo (tallyOf s) v ia ib (oneMore (tallyOf s .clips) x y z) ≡ tallyOf (summed s v ia ib x y z raw)
 unfolding joinedTo tallyOf summed
 tally-more s v ia ib x y z raw = rw (packed-more (s .clips) x y z)
 

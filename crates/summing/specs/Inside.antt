@@ -71,19 +71,19 @@ tallied t raw = record { vv = t .vv; a = t .a; b = t .b; clips = unpacked (t .cl
 unfoldable pub oneMore : ℕ → Bool → Bool → Bool → ℕ
 oneMore n v s1 s3 = n + oneIf v + oneIf s1 * 65536 + oneIf s3 * 4294967296
 
-unfoldable pub joinedTo : Tally → ℤ → ℤ → ℤ → Bool → Bool → Bool → Tally
-joinedTo t v ia ib v-clipped s1-clipped s3-clipped = record {
+unfoldable pub joinedTo : Tally → ℤ → ℤ → ℤ → ℕ → Tally
+joinedTo t v ia ib clips = record {
   vv = t .vv + squareOf v;
   a = joined (t .a) v ia;
   b = joined (t .b) v ib;
-  clips = oneMore (t .clips) v-clipped s1-clipped s3-clipped;
+  clips = clips;
 }
 
 unfoldable pub takenInto : Tally → Probe → ℤ → Both → ℤ → ℤ → Tally
 takenInto t p v now old1 old3 =
     let y = mixedBoth p now old1 old3 in
     joinedTo t (corrected v (p .voffs) (p .vgain)) (blended (p .a) (y .s1) (y .s3)) (blended (p .b) (y .s1) (y .s3))
-    (wasClipped v (p .voffs) (p .vgain)) (now .s1 .clipped) (now .s3 .clipped)
+    (oneMore (t .clips) (wasClipped v (p .voffs) (p .vgain)) (now .s1 .clipped) (now .s3 .clipped))
 
 -- a tally of at most 4,096 samples: one more cannot pass its bits
 pub record Small (t : Tally) : Type 0 where

@@ -154,40 +154,44 @@ fn sums_after(mut s: Sums, t: Tally, raw: Inputs) -> Sums
     s
 }
 
-// Whether a sample's voltage, and each of its inputs, was clipped is counted without a branch.
+// Whether a sample's voltage, and each of its inputs, was clipped. (Where none was, as most often, the flags need not be made numbers.)
 fn count(n: u64, v: bool, s1: bool, s3: bool) -> u64
     requires { ⌜ n ≤ 4096 * (1 + 65536 + 4294967296) ⌝ }
     ensures { λ r. ⌜ r ≡ oneMore n v s1 s3 ⌝ }
 {
-    n + v as u64 + s1 as u64 * 65536 + s3 as u64 * 4294967296
+    if v | s1 | s3 {
+        return n + v as u64 + s1 as u64 * 65536 + s3 as u64 * 4294967296;
+    }
+    n
 }
 
-// v the corrected voltage, ia and ib the sources' currents, now the corrected inputs, which say whether they were clipped.
-fn add(t: Tally, v: Corrected, ia: i32, ib: i32, now: Both) -> Tally
-    requires { ⌜ Small t × (mag (v .value) < 8388608) × (mag ia < 8388608) × (mag ib < 8388608) ⌝ }
-    ensures { λ r. ⌜ r ≡ joinedTo t (v .value) ia ib (v .clipped) (now .s1 .clipped) (now .s3 .clipped) ⌝ }
+// v the corrected voltage, ia and ib the sources' currents, clips the counts with this sample.
+fn add(t: Tally, v: i32, ia: i32, ib: i32, clips: u64) -> Tally
+    requires { ⌜ Small t × (mag v < 8388608) × (mag ia < 8388608) × (mag ib < 8388608) ⌝ }
+    ensures { λ r. ⌜ r ≡ joinedTo t v ia ib clips ⌝ }
 {
-    let a = join(t.a, v.value, ia);
-    let b = join(t.b, v.value, ib);
-    let clips = count(t.clips, v.clipped, now.s1.clipped, now.s3.clipped);
+    let a = join(t.a, v, ia);
+    let b = join(t.b, v, ib);
     Tally {
-        vv: t.vv + number::square(v.value),
+        vv: t.vv + number::square(v),
         a,
         b,
         clips,
     }
 }
 
-// One sample more: v the raw voltage, now the corrected inputs, old1 and old3 the previous ones, which were counted with their own sample.
+// One sample more: v the raw voltage, now the corrected inputs, old1 and old3 the previous ones, which were counted with their own sample. (What was
+// clipped is counted before anything else is worked, so that no flag is kept.)
 fn take(t: Tally, p: Probe, v: i32, now: Both, old1: i32, old3: i32) -> Tally
     requires { ⌜ Small t × (p .phase ≤ 4095) × Within now × (mag old1 < 8388608) × (mag old3 < 8388608) ⌝ }
     ensures { λ r. ⌜ r ≡ takenInto t p v now old1 old3 ⌝ }
 {
     let cv = correct(v, p.voffs, p.vgain);
+    let clips = count(t.clips, cv.clipped, now.s1.clipped, now.s3.clipped);
     let y = mix_both(p, now, old1, old3);
     let ia = blend(p.a, y.s1, y.s3);
     let ib = blend(p.b, y.s1, y.s3);
-    add(t, cv, ia, ib, now)
+    add(t, cv.value, ia, ib, clips)
 }
 
 // The corrected inputs before a sample whose raw inputs are s1 and s3.
