@@ -181,7 +181,7 @@ fn add(t: Tally, v: i32, ia: i32, ib: i32, clips: u64) -> Tally
 }
 
 // One sample more: v the raw voltage, now the corrected inputs, old1 and old3 the previous ones, which were counted with their own sample. (What was
-// clipped is counted before anything else is worked, so that no flag is kept.)
+// clipped is counted before the sources are made: that was quicker, docs/PACE.md.)
 fn take(t: Tally, p: Probe, v: i32, now: Both, old1: i32, old3: i32) -> Tally
     requires { ⌜ Small t × (p .phase ≤ 4095) × Within now × (mag old1 < 8388608) × (mag old3 < 8388608) ⌝ }
     ensures { λ r. ⌜ r ≡ takenInto t p v now old1 old3 ⌝ }
