@@ -3,6 +3,8 @@ use mathlib.Core.Path.{refl, sym, _∙_}
 use Rattle.promise.specs.Determined.{Decided}
 use Rattle.range.proofs.in_range.Kinds as in-range-k
 use Rattle.range.proofs.in_range.Reads as in-range
+use Rattle.range.proofs.holds.Kinds as holds-k
+use Rattle.range.proofs.holds.Reads as holds
 use Rattle.range.proofs.held_within.Kinds as held-within-k
 use Rattle.range.proofs.held_within.Reads as held-within
 use Rattle.range.proofs.clip.Kinds as clip-k
@@ -12,6 +14,9 @@ use Rattle.range.proofs.cap.Reads as cap
 
 pub in-range-decided : Decided 0 in-range-k.ps in-range-k.r in-range.Pre in-range.Post
 in-range-decided = record { always = λ κs a. tt; determined = λ κs a p z z′ ws ws′ q q′. (q ∙ sym q′, refl) }
+
+pub holds-decided : Decided 0 holds-k.ps holds-k.r holds.Pre holds.Post
+holds-decided = record { always = λ κs a. tt; determined = λ κs a p z z′ ws ws′ q q′. (q ∙ sym q′, refl) }
 
 pub held-within-decided : Decided 0 held-within-k.ps held-within-k.r held-within.Pre held-within.Post
 held-within-decided = record { always = λ κs a. tt; determined = λ κs a p z z′ ws ws′ q q′. (q ∙ sym q′, refl) }

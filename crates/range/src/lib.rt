@@ -9,6 +9,13 @@ pub fn in_range(x: i32) -> bool
     (-8388608 <= x) & (x <= 8388607)
 }
 
+// Whether the 24-bit range holds x, so that clipping leaves it as it is.
+pub fn holds(x: i64) -> bool
+    ensures { λ r. ⌜ r ≡ in24 x ⌝ }
+{
+    (x >= -8388608) & (8388607 >= x)
+}
+
 // x held within lo and hi.
 pub fn held_within(x: i64, lo: i64, hi: i64) -> i64
     ensures { λ r. ⌜ r ≡ heldWithin lo hi x ⌝ }

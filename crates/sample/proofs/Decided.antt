@@ -3,8 +3,8 @@ use mathlib.Core.Path.{refl, sym, _∙_}
 use Rattle.promise.specs.Determined.{Decided}
 use Rattle.sample.proofs.correct.Kinds as correct-k
 use Rattle.sample.proofs.correct.Reads as correct
-use Rattle.sample.proofs.mix.Kinds as mix-k
-use Rattle.sample.proofs.mix.Reads as mix
+use Rattle.sample.proofs.scale.Kinds as scale-k
+use Rattle.sample.proofs.scale.Reads as scale
 use Rattle.sample.proofs.all_in_range.Kinds as all-in-range-k
 use Rattle.sample.proofs.all_in_range.Reads as all-in-range
 use Rattle.sample.proofs.phase_in_range.Kinds as phase-in-range-k
@@ -21,8 +21,8 @@ use Rattle.sample.proofs.Sums.emptied.Reads as emptied
 pub correct-decided : Decided 0 correct-k.ps correct-k.r correct.Pre correct.Post
 correct-decided = record { always = λ κs a. tt; determined = λ κs a p z z′ ws ws′ q q′. (q ∙ sym q′, refl) }
 
-pub mix-decided : Decided 0 mix-k.ps mix-k.r mix.Pre mix.Post
-mix-decided = record { always = λ κs a. tt; determined = λ κs a p z z′ ws ws′ q q′. (q ∙ sym q′, refl) }
+pub scale-decided : Decided 0 scale-k.ps scale-k.r scale.Pre scale.Post
+scale-decided = record { always = λ κs a. tt; determined = λ κs a p z z′ ws ws′ q q′. (q ∙ sym q′, refl) }
 
 pub all-in-range-decided : Decided 1 all-in-range-k.ps all-in-range-k.r all-in-range.Pre all-in-range.Post
 all-in-range-decided = record { always = λ κs a. tt; determined = λ κs a p z z′ ws ws′ q q′. (q ∙ sym q′, refl) }

@@ -1,7 +1,7 @@
 // Samples: what a card makes of a raw one, and what is kept of the running interval's.
 ghost use mathlib.Core.Path.{_≡_};
 ghost use Prim.Native.Nat.{_≤_};
-ghost use Rattle.sample.specs.Sample.{correction, mixed, every24};
+ghost use Rattle.sample.specs.Sample.{scaled, correction, every24};
 ghost use Rattle.sample.specs.Sums.{emptied, noFlow, noClips, noSums, flowWithin, clipsWithin, ofAtMost, phaseInRange};
 use card::Card;
 use card::names::PHASE;
@@ -12,24 +12,23 @@ pub struct Corrected {
     pub clipped: bool,
 }
 
-// (raw - offset) times gain / 2^21, rounded down and clipped, and whether clipping changed it. No i32 makes it overflow.
+// (raw - offset) times gain / 2^21, rounded down. No i32 makes it overflow.
+pub fn scale(raw: i32, offset: i32, gain: i32) -> i64
+    ensures { λ r. ⌜ r ≡ scaled raw offset gain ⌝ }
+{
+    number::floor_div((raw as i64 - offset as i64) * gain as i64, 21)
+}
+
+// The same clipped, and whether clipping changed it.
 pub fn correct(raw: i32, offset: i32, gain: i32) -> Corrected
     ensures { λ r. ⌜ r ≡ correction raw offset gain ⌝ }
 {
-    let x = number::floor_div((raw as i64 - offset as i64) * gain as i64, 21);
+    let x = scale(raw, offset, gain);
     let value = range::clip(x);
     Corrected {
         value,
         clipped: value as i64 != x,
     }
-}
-
-// ((4,096 - phase) times now + phase times previous) / 4,096, rounded down: now comes out of the division whole, and one product is left.
-pub fn mix(phase: u16, now: i32, previous: i32) -> i64
-    ensures { λ r. ⌜ r ≡ mixed phase now previous ⌝ }
-{
-    let x = now as i64;
-    x + number::floor_div(phase as i64 * (previous as i64 - x), 12)
 }
 
 // Whether every sample is in the 24-bit range. No branch a sample: a machine can test several at once.

@@ -6,16 +6,18 @@ use native.Mathlib.Numerals.{add-one}
 use native.Mathlib.Omega.{arith}
 use lib.ListN.{length, drop, drop-of-length-le}
 use lib.IntN.{ℤ}
+use lib.Signed.{mag}
+use Rattle.range.proofs.Ranges.{clipped-mag}
 use Rattle.card.specs.declared.Card.{Card}
 use Rattle.sample.specs.declared.Inputs.{Inputs}
 use Rattle.sample.specs.declared.Sums.{Sums}
-use Rattle.sample.specs.Sample.{correction, voltage, input, phased, voltageClipped, inputClipped, sourceCurrent}
+use Rattle.sample.specs.Sample.{voltage, input, phased, voltageClipped, inputClipped, sourceCurrent}
 use Rattle.sample.specs.Sums.{Sample, samplesIn, added, addedAll}
 use Rattle.sample.specs.Inside.{Phased}
 use Rattle.sample.proofs.Corrections.{corrected-in}
 use Rattle.sample.proofs.Slices.{sampleAt, samples-long, samples-at}
 use Rattle.summing.specs.declared.Probe.{Probe}
-use Rattle.summing.specs.Inside.{probeOf, bothOf, mixedBoth, probed, probedAll, Within}
+use Rattle.summing.specs.Inside.{probeOf, bothOf, mixedBoth, probed, probedAll, clippedEach, readingOf, Within}
 
 -- a turn of the loop
 module _ (p : Probe) (s : Sums) (v s1 s3 : List ℤ) (k : ℕ) (e : length v ≡ length s1) (f : length v ≡ length s3) where
@@ -30,7 +32,7 @@ module _ (p : Probe) (s : Sums) (v s1 s3 : List ℤ) (k : ℕ) (e : length v ≡
 -- what the card and the configuration do, taken out once
 module _ (c : Card) (g : ℕ) where
   probe-one : (s : Sums) (x : Sample) → probed (probeOf c g) s x ≡ added c g s x
-  unfolding probed probeOf bothOf mixedBoth correction added voltage input phased voltageClipped inputClipped sourceCurrent
+  unfolding probed probeOf bothOf mixedBoth added voltage input phased voltageClipped inputClipped sourceCurrent
   probe-one s x = refl
 
   pub probe-is : (s : Sums) (xs : List Sample) → probedAll (probeOf c g) s xs ≡ addedAll c g s xs
@@ -42,7 +44,11 @@ module _ (c : Card) (g : ℕ) where
   unfolding probeOf
   phase-most h = h .high
 
--- corrected inputs are in the 24-bit range
-pub both-within : (p : Probe) (raw : Inputs) → Within (bothOf p raw)
-unfolding bothOf correction
-both-within p raw = record { s1 = corrected-in (raw .s1) (p .ioffs) (p .igain); s3 = corrected-in (raw .s3) (p .ioffs) (p .igain) }
+-- corrected values are in the 24-bit range
+pub both-in : (p : Probe) (raw : Inputs) → (mag (bothOf p raw .s1) < 8388608) × (mag (bothOf p raw .s3) < 8388608)
+unfolding bothOf
+both-in p raw = (corrected-in (raw .s1) (p .ioffs) (p .igain), corrected-in (raw .s3) (p .ioffs) (p .igain))
+
+pub reading-within : (n : ℕ) (p : Probe) (x : Sample) → Within (readingOf n p x)
+unfolding readingOf clippedEach
+reading-within n p x = record { v = clipped-mag _; s1 = clipped-mag _; s3 = clipped-mag _ }

@@ -12,11 +12,12 @@ use Rattle.sample.specs.declared.Inputs.{Inputs}
 use Rattle.sample.specs.declared.Clips.{Clips}
 use Rattle.sample.specs.declared.Sums.{Sums}
 use Rattle.sample.specs.Fields.{voffs, ioffs, vgain, igain, phase}
-use Rattle.sample.specs.Sample.{corrected, wasClipped, correction, mixed}
+use Rattle.range.specs.Range.{outside24, clipped}
+use Rattle.sample.specs.Sample.{scaled, corrected, wasClipped, mixed}
 use Rattle.sample.specs.Sums.{Sample, joined, oneIf, summed, previous}
 use Rattle.sample.specs.Inside.{Flowing}
 use Rattle.summing.specs.declared.Probe.{Probe}
-use Rattle.summing.specs.declared.Both.{Both}
+use Rattle.summing.specs.declared.Reading.{Reading}
 use Rattle.summing.specs.declared.Tally.{Tally}
 
 -- what a sample needs of its card and of the configuration
@@ -32,20 +33,19 @@ probeOf c config = record {
 }
 
 -- both inputs corrected, and then mixed with the previous ones
-unfoldable pub bothOf : Probe → Inputs → Both
-bothOf p raw = record { s1 = correction (raw .s1) (p .ioffs) (p .igain); s3 = correction (raw .s3) (p .ioffs) (p .igain) }
+unfoldable pub bothOf : Probe → Inputs → Inputs
+bothOf p raw = record { s1 = corrected (raw .s1) (p .ioffs) (p .igain); s3 = corrected (raw .s3) (p .ioffs) (p .igain) }
 
-unfoldable pub mixedBoth : Probe → Both → ℤ → ℤ → Inputs
-mixedBoth p now old1 old3 = record { s1 = mixed (p .phase) (now .s1 .value) old1; s3 = mixed (p .phase) (now .s3 .value) old3 }
+unfoldable pub mixedBoth : Probe → Inputs → Inputs → Inputs
+mixedBoth p now old = record { s1 = mixed (p .phase) (now .s1) (old .s1); s3 = mixed (p .phase) (now .s3) (old .s3) }
 
 -- one sample more, and samples one after another: `added` and `addedAll` of the card and the configuration that the probe was taken out of
 unfoldable pub probed : Probe → Sums → Sample → Sums
 probed p s x =
-    let now = bothOf p (x .1) in
-    let old = bothOf p (previous s (x .1)) in
-    let y = mixedBoth p now (old .s1 .value) (old .s3 .value) in
+    let raw = x .1 in
+    let y = mixedBoth p (bothOf p raw) (bothOf p (previous s raw)) in
     summed s (corrected (x .0) (p .voffs) (p .vgain)) (blended (p .a) (y .s1) (y .s3)) (blended (p .b) (y .s1) (y .s3))
-    (wasClipped (x .0) (p .voffs) (p .vgain)) (now .s1 .clipped) (now .s3 .clipped) (x .1)
+    (wasClipped (x .0) (p .voffs) (p .vgain)) (wasClipped (raw .s1) (p .ioffs) (p .igain)) (wasClipped (raw .s3) (p .ioffs) (p .igain)) raw
 
 unfoldable pub probedAll : Probe → Sums → List Sample → Sums
 probedAll p s [] = s
@@ -71,6 +71,15 @@ tallied t raw = record { vv = t .vv; a = t .a; b = t .b; clips = unpacked (t .cl
 unfoldable pub oneMore : ℕ → Bool → Bool → Bool → ℕ
 oneMore n v s1 s3 = n + oneIf v + oneIf s1 * 65536 + oneIf s3 * 4294967296
 
+-- the values of a sample clipped, and counted where that changes them: n was counted before
+unfoldable pub clippedEach : ℕ → ℤ → ℤ → ℤ → Reading
+clippedEach n v s1 s3 = record { v = clipped v; s1 = clipped s1; s3 = clipped s3; clips = oneMore n (outside24 v) (outside24 s1) (outside24 s3) }
+
+unfoldable pub readingOf : ℕ → Probe → Sample → Reading
+readingOf n p x =
+    let raw = x .1 in
+    clippedEach n (scaled (x .0) (p .voffs) (p .vgain)) (scaled (raw .s1) (p .ioffs) (p .igain)) (scaled (raw .s3) (p .ioffs) (p .igain))
+
 unfoldable pub joinedTo : Tally → ℤ → ℤ → ℤ → ℕ → Tally
 joinedTo t v ia ib clips = record {
   vv = t .vv + squareOf v;
@@ -79,11 +88,10 @@ joinedTo t v ia ib clips = record {
   clips = clips;
 }
 
-unfoldable pub takenInto : Tally → Probe → ℤ → Both → ℤ → ℤ → Tally
-takenInto t p v now old1 old3 =
-    let y = mixedBoth p now old1 old3 in
-    joinedTo t (corrected v (p .voffs) (p .vgain)) (blended (p .a) (y .s1) (y .s3)) (blended (p .b) (y .s1) (y .s3))
-    (oneMore (t .clips) (wasClipped v (p .voffs) (p .vgain)) (now .s1 .clipped) (now .s3 .clipped))
+unfoldable pub takenInto : Tally → Probe → Reading → Inputs → Tally
+takenInto t p x old =
+    let y = mixedBoth p (record { s1 = x .s1; s3 = x .s3 }) old in
+    joinedTo t (x .v) (blended (p .a) (y .s1) (y .s3)) (blended (p .b) (y .s1) (y .s3)) (x .clips)
 
 -- a tally of at most 4,096 samples: one more cannot pass its bits
 pub record Small (t : Tally) : Type 0 where
@@ -92,7 +100,8 @@ pub record Small (t : Tally) : Type 0 where
   pub b : Flowing (t .b) 4096
   pub clips : t .clips ≤ 4096 * (1 + 65536 + 4294967296)
 
--- both inputs in the 24-bit range
-pub record Within (b : Both) : Type 0 where
-  pub s1 : mag (b .s1 .value) < 8388608
-  pub s3 : mag (b .s3 .value) < 8388608
+-- all values of a sample in the 24-bit range
+pub record Within (x : Reading) : Type 0 where
+  pub v : mag (x .v) < 8388608
+  pub s1 : mag (x .s1) < 8388608
+  pub s3 : mag (x .s3) < 8388608

@@ -4,9 +4,10 @@ ghost use Prim.Native.Nat.{_+_, _*_, _≤_, _<_};
 ghost use lib.IntN.{pos};
 ghost use lib.Signed.{mag};
 ghost use lib.ListN.{length, getD};
+ghost use Rattle.sample.specs.Sample.{mixed};
 ghost use Rattle.sample.specs.Sums.{joined, previous, samplesIn, addedAll, withSamples};
 ghost use Rattle.sample.specs.Inside.{Flowing, Few, Spare, Phased};
-ghost use Rattle.summing.specs.Inside.{probeOf, bothOf, mixedBoth, probedAll};
+ghost use Rattle.summing.specs.Inside.{probeOf, bothOf, mixedBoth, probedAll, clippedEach, readingOf};
 ghost use Rattle.summing.specs.Inside.{unpacked, tallyOf, tallied, oneMore, joinedTo, takenInto, Small, Within};
 use card::Card;
 use card::names::IGAIN;
@@ -15,13 +16,12 @@ use card::names::PHASE;
 use card::names::VGAIN;
 use card::names::VOFFS;
 use sample::Clips;
-use sample::Corrected;
 use sample::Flow;
 use sample::Inputs;
 use sample::Sums;
 use sample::correct;
-use sample::mix;
 use sample::phase_in_range;
+use sample::scale;
 use source::Multipliers;
 use source::blend;
 use source::multipliers_in;
@@ -37,10 +37,12 @@ pub struct Probe {
     pub b: Multipliers,
 }
 
-// Both inputs of a sample, corrected.
-pub struct Both {
-    pub s1: Corrected,
-    pub s3: Corrected,
+// A sample's corrected voltage and inputs, and the counts of clipped ones with this sample's. (The inputs stay as wide as their mix is worked in.)
+pub struct Reading {
+    pub v: i32,
+    pub s1: i64,
+    pub s3: i64,
+    pub clips: u64,
 }
 
 fn probe_of(c: Card, config: u8) -> Probe
@@ -61,21 +63,21 @@ fn probe_of(c: Card, config: u8) -> Probe
     }
 }
 
-fn correct_both(p: Probe, s1: i32, s3: i32) -> Both
-    ensures { λ r. ⌜ r ≡ bothOf p (record { s1 = s1; s3 = s3 }) ⌝ }
+// ((4,096 - phase) times now + phase times previous) / 4,096, rounded down: now comes out of the division whole, and one product is left.
+fn mix(phase: u16, now: i64, previous: i64) -> i64
+    requires { ⌜ (mag now < 8388608) × (mag previous < 8388608) ⌝ }
+    ensures { λ r. ⌜ r ≡ mixed phase now previous ⌝ }
 {
-    let x = correct(s1, p.ioffs, p.igain);
-    let y = correct(s3, p.ioffs, p.igain);
-    Both { s1: x, s3: y }
+    now + number::floor_div(phase as i64 * (previous - now), 12)
 }
 
-// Both inputs mixed with the previous ones. (Those are two numbers and no struct: the loop then keeps each in a register of its own.)
-fn mix_both(p: Probe, now: Both, old1: i32, old3: i32) -> Inputs
-    requires { ⌜ (p .phase ≤ 4095) × Within now × (mag old1 < 8388608) × (mag old3 < 8388608) ⌝ }
-    ensures { λ r. ⌜ r ≡ mixedBoth p now old1 old3 ⌝ }
+// Both inputs mixed with the previous ones.
+fn mix_both(p: Probe, x: Reading, old1: i64, old3: i64) -> Inputs
+    requires { ⌜ (p .phase ≤ 4095) × Within x × (mag old1 < 8388608) × (mag old3 < 8388608) ⌝ }
+    ensures { λ r. ⌜ r ≡ mixedBoth p (record { s1 = x .s1; s3 = x .s3 }) (record { s1 = old1; s3 = old3 }) ⌝ }
 {
-    let s1 = mix(p.phase, now.s1.value, old1);
-    let s3 = mix(p.phase, now.s3.value, old3);
+    let s1 = mix(p.phase, x.s1, old1);
+    let s3 = mix(p.phase, x.s3, old3);
     Inputs {
         s1: s1 as i32,
         s3: s3 as i32,
@@ -154,15 +156,45 @@ fn sums_after(mut s: Sums, t: Tally, raw: Inputs) -> Sums
     s
 }
 
-// Whether a sample's voltage, and each of its inputs, was clipped. (Where none was, as most often, the flags need not be made numbers.)
+// The counts with a sample more; a test says whether its voltage, S1 and S3 were clipped.
 fn count(n: u64, v: bool, s1: bool, s3: bool) -> u64
     requires { ⌜ n ≤ 4096 * (1 + 65536 + 4294967296) ⌝ }
     ensures { λ r. ⌜ r ≡ oneMore n v s1 s3 ⌝ }
 {
-    if v | s1 | s3 {
-        return n + v as u64 + s1 as u64 * 65536 + s3 as u64 * 4294967296;
+    n + v as u64 + s1 as u64 * 65536 + s3 as u64 * 4294967296
+}
+
+// Each value of a sample clipped, and counted where that changed it.
+fn clip_each(n: u64, v: i64, s1: i64, s3: i64) -> Reading
+    requires { ⌜ n ≤ 4096 * (1 + 65536 + 4294967296) ⌝ }
+    ensures { λ r. ⌜ r ≡ clippedEach n v s1 s3 ⌝ }
+{
+    let clips = count(n, !range::holds(v), !range::holds(s1), !range::holds(s3));
+    Reading {
+        v: range::clip(v),
+        s1: range::clip(s1) as i64,
+        s3: range::clip(s3) as i64,
+        clips,
     }
-    n
+}
+
+// A sample, corrected. (As most are, it is within the range in all its values: one test tells, and nothing is clipped or counted.)
+fn read(n: u64, p: Probe, v: i32, s1: i32, s3: i32) -> Reading
+    requires { ⌜ n ≤ 4096 * (1 + 65536 + 4294967296) ⌝ }
+    ensures { λ r. ⌜ r ≡ readingOf n p (v, record { s1 = s1; s3 = s3 }) ⌝ }
+{
+    let x = scale(v, p.voffs, p.vgain);
+    let y = scale(s1, p.ioffs, p.igain);
+    let z = scale(s3, p.ioffs, p.igain);
+    if range::holds(x) & range::holds(y) & range::holds(z) {
+        return Reading {
+            v: x as i32,
+            s1: y,
+            s3: z,
+            clips: n,
+        };
+    }
+    clip_each(n, x, y, z)
 }
 
 // v the corrected voltage, ia and ib the sources' currents, clips the counts with this sample.
@@ -180,22 +212,30 @@ fn add(t: Tally, v: i32, ia: i32, ib: i32, clips: u64) -> Tally
     }
 }
 
-// One sample more: v the raw voltage, now the corrected inputs, old1 and old3 the previous ones, which were counted with their own sample. (What was
-// clipped is counted before the sources are made: that was quicker, docs/PACE.md.)
-fn take(t: Tally, p: Probe, v: i32, now: Both, old1: i32, old3: i32) -> Tally
-    requires { ⌜ Small t × (p .phase ≤ 4095) × Within now × (mag old1 < 8388608) × (mag old3 < 8388608) ⌝ }
-    ensures { λ r. ⌜ r ≡ takenInto t p v now old1 old3 ⌝ }
+// One sample more; old1 and old3 are the previous inputs, corrected, which were counted with their own sample.
+fn take(t: Tally, p: Probe, x: Reading, old1: i64, old3: i64) -> Tally
+    requires { ⌜ Small t × (p .phase ≤ 4095) × Within x × (mag old1 < 8388608) × (mag old3 < 8388608) ⌝ }
+    ensures { λ r. ⌜ r ≡ takenInto t p x (record { s1 = old1; s3 = old3 }) ⌝ }
 {
-    let cv = correct(v, p.voffs, p.vgain);
-    let clips = count(t.clips, cv.clipped, now.s1.clipped, now.s3.clipped);
-    let y = mix_both(p, now, old1, old3);
+    let y = mix_both(p, x, old1, old3);
     let ia = blend(p.a, y.s1, y.s3);
     let ib = blend(p.b, y.s1, y.s3);
-    add(t, cv.value, ia, ib, clips)
+    add(t, x.v, ia, ib, x.clips)
+}
+
+fn correct_both(p: Probe, s1: i32, s3: i32) -> Inputs
+    ensures { λ r. ⌜ r ≡ bothOf p (record { s1 = s1; s3 = s3 }) ⌝ }
+{
+    let x = correct(s1, p.ioffs, p.igain);
+    let y = correct(s3, p.ioffs, p.igain);
+    Inputs {
+        s1: x.value,
+        s3: y.value,
+    }
 }
 
 // The corrected inputs before a sample whose raw inputs are s1 and s3.
-fn corrected_before(s: Sums, p: Probe, s1: i32, s3: i32) -> Both
+fn corrected_before(s: Sums, p: Probe, s1: i32, s3: i32) -> Inputs
     ensures { λ r. ⌜ r ≡ bothOf p (previous s (record { s1 = s1; s3 = s3 })) ⌝ }
 {
     if s.seen {
@@ -206,21 +246,21 @@ fn corrected_before(s: Sums, p: Probe, s1: i32, s3: i32) -> Both
 }
 
 // The samples of three slices, one after another; first has the corrected inputs before the first of them.
-fn run_with(s0: Sums, p: Probe, first: Both, v: &[i32], s1: &[i32], s3: &[i32]) -> Sums
+fn run_with(s0: Sums, p: Probe, first: Inputs, v: &[i32], s1: &[i32], s3: &[i32]) -> Sums
     requires { ⌜ (p .phase ≤ 4095) × Spare s0 (length (now v)) × (0 < length (now v)) ⌝ }
     requires { ⌜ (length (now v) ≡ length (now s1)) × (length (now v) ≡ length (now s3)) ⌝ }
     requires { ⌜ first ≡ bothOf p (previous s0 (record { s1 = getD (now s1) 0 (pos 0); s3 = getD (now s3) 0 (pos 0) })) ⌝ }
     ensures { λ r. ⌜ r ≡ probedAll p s0 (samplesIn (now (v .entry)) (now (s1 .entry)) (now (s3 .entry))) ⌝ }
 {
-    let mut old1 = first.s1.value;
-    let mut old3 = first.s3.value;
+    let mut old1 = first.s1 as i64;
+    let mut old3 = first.s3 as i64;
     let mut t = tally_of(s0);
     let mut k: usize = 0;
     while k < v.len() {
-        let now = correct_both(p, s1[k], s3[k]);
-        t = take(t, p, v[k], now, old1, old3);
-        old1 = now.s1.value;
-        old3 = now.s3.value;
+        let x = read(t.clips, p, v[k], s1[k], s3[k]);
+        t = take(t, p, x, old1, old3);
+        old1 = x.s1;
+        old3 = x.s3;
         k += 1;
     }
     let last = v.len() - 1;

@@ -14,39 +14,23 @@ use borrow.Author.Needs.{needs, sfits-of}
 use Rattle.sample.proofs.correct.Statement.{statement}
 use Rattle.sample.proofs.correct.Tie as tie
 
-cast-floor-div : tie.Need-cast-floor-div
-cast-floor-div c = search ranges
-
-cast-floor-div-2 : tie.Need-cast-floor-div-2
-cast-floor-div-2 c = search ranges
-
-sub-floor-div : tie.Need-sub-floor-div
-sub-floor-div c = search ranges
-
-cast-floor-div-3 : tie.Need-cast-floor-div-3
-cast-floor-div-3 c = search ranges
-
-mul-floor-div : tie.Need-mul-floor-div
-mul-floor-div c = search ranges
-
-floor-div-requires : tie.Need-floor-div-requires
-floor-div-requires c κs = search needs
+scale-requires : tie.Need-scale-requires
+scale-requires c κs = search needs
 
 clip-requires : tie.Need-clip-requires
 clip-requires c κs = search needs
 
 -- the value before clipping
-scaled-is : (c : tie.After-floor-div) → c .floor-div .result ≡ scaled (c .before .args .raw) (c .before .args .offset) (c .before .args .gain)
-unfolding scaled
-scaled-is c = c .floor-div .ensures ∙ search ranges
+scaled-is : (c : tie.After-scale) → c .scale .result ≡ scaled (c .before .args .raw) (c .before .args .offset) (c .before .args .gain)
+scaled-is c = c .scale .ensures ∙ search ranges
 
-scaled-fits : (c : tie.After-floor-div) → SFits w64 (c .floor-div .result)
-scaled-fits c = sfits-of (c .floor-div .ok)
+scaled-fits : (c : tie.After-scale) → SFits w64 (c .scale .result)
+scaled-fits c = sfits-of (c .scale .ok)
 
 -- and the clipped one
 value-is : (c : tie.After-clip) → let a = c .before .before .args in toZ w32 (ofZ w32 (c .clip .result)) ≡ corrected (a .raw) (a .offset) (a .gain)
 unfolding corrected
-value-is c = answer w32 (c .clip .ok) (c .clip .ensures ∙ ap clipped (answer w64 (c .before .floor-div .ok) (scaled-is (c .before))))
+value-is c = answer w32 (c .clip .ok) (c .clip .ensures ∙ ap clipped (answer w64 (c .before .scale .ok) (scaled-is (c .before))))
 
 cast-t6 : tie.Need-cast-t6
 cast-t6 c = let a = c .before .before .args in rw (value-is c) (widen (in-fits (in-mag (corrected (a .raw) (a .offset) (a .gain)) (corrected-in (a .raw) (a .offset) (a .gain)))))
@@ -61,15 +45,4 @@ returns c =
     (ap₂ (λ (v x : ℤ). not (eqb (ofZ w64 v) (ofZ w64 x))) (value-is c) (scaled-is f) ∙ outside-test x (subst (SFits w64) (scaled-is f) (scaled-fits f)))
 
 pub correct-spec : {M : Type 1} → statement M
-correct-spec =
-    tie.close
-    (tie.spec
-    cast-floor-div
-    cast-floor-div-2
-    sub-floor-div
-    cast-floor-div-3
-    mul-floor-div
-    floor-div-requires
-    clip-requires
-    cast-t6
-    returns)
+correct-spec = tie.close (tie.spec scale-requires clip-requires cast-t6 returns)

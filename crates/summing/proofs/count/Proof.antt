@@ -1,8 +1,8 @@
 -- `count` meets its contract.
-use Prim.Native.Nat.{ℕ, _≤_}
+use Prim.Native.Nat.{_≤_}
 use native.Mathlib.Omega.{arith}
 use mathlib.Core.Path.{_≡_, refl}
-use mathlib.Core.Bool.{Bool, true, false, _||_, true≢false}
+use mathlib.Core.Bool.{Bool, true, false}
 use mir.Val.{boolByte}
 use Rattle.sample.specs.Sums.{oneIf}
 use Rattle.summing.specs.Inside.{oneMore}
@@ -23,40 +23,29 @@ cast-result : tie.Need-cast-result
 cast-result c = search needs
 
 add-result : tie.Need-add-result
-add-result c = record { fits = omega (arith, c .before .pre, byte-most (c .before .args .v)) }
+add-result c = record { fits = omega (arith, c .pre, byte-most (c .args .v)) }
 
 cast-result-2 : tie.Need-cast-result-2
 cast-result-2 c = search needs
 
 mul-result : tie.Need-mul-result
-mul-result c = record { fits = omega (arith, byte-most (c .before .args .s1)) }
+mul-result c = record { fits = omega (arith, byte-most (c .args .s1)) }
 
 add-result-2 : tie.Need-add-result-2
-add-result-2 c = record { fits = omega (arith, c .before .pre, byte-most (c .before .args .v), byte-most (c .before .args .s1)) }
+add-result-2 c = record { fits = omega (arith, c .pre, byte-most (c .args .v), byte-most (c .args .s1)) }
 
 cast-result-3 : tie.Need-cast-result-3
 cast-result-3 c = search needs
 
 mul-result-2 : tie.Need-mul-result-2
-mul-result-2 c = record { fits = omega (arith, byte-most (c .before .args .s3)) }
+mul-result-2 c = record { fits = omega (arith, byte-most (c .args .s3)) }
 
 add-result-3 : tie.Need-add-result-3
-add-result-3 c = record { fits = omega (arith, c .before .pre, byte-most (c .before .args .v), byte-most (c .before .args .s1), byte-most (c .before .args .s3)) }
+add-result-3 c = record { fits = omega (arith, c .pre, byte-most (c .args .v), byte-most (c .args .s1), byte-most (c .args .s3)) }
 
 returns : tie.Need-returns
 unfolding oneMore
-returns c = rw (byte-is (c .before .args .v), byte-is (c .before .args .s1), byte-is (c .before .args .s3))
-
--- where none was clipped, nothing is added
-none-more : (n : ℕ) (v s1 s3 : Bool) → v || s1 || s3 ≡ false → n ≡ oneMore n v s1 s3
-unfolding oneMore
-none-more n false false false e = omega arith
-none-more n false false true e = absurd (true≢false e)
-none-more n false true s3 e = absurd (true≢false e)
-none-more n true s1 s3 e = absurd (true≢false e)
-
-returns-2 : tie.Need-returns-2
-returns-2 c = let a = c .before .args in none-more (a .n) (a .v) (a .s1) (a .s3) (c .if1 .left)
+returns c = rw (byte-is (c .args .v), byte-is (c .args .s1), byte-is (c .args .s3))
 
 pub count-spec : {M : Type 1} → statement M
-count-spec = tie.close (tie.spec cast-result add-result cast-result-2 mul-result add-result-2 cast-result-3 mul-result-2 add-result-3 returns returns-2)
+count-spec = tie.close (tie.spec cast-result add-result cast-result-2 mul-result add-result-2 cast-result-3 mul-result-2 add-result-3 returns)

@@ -9,24 +9,27 @@ use mathlib.Core.Bool.{true}
 use mathlib.Core.List.{List}
 use lib.IntN.{ℤ, pos}
 use lib.ListN.{getD, length, drop}
-use mir.Syntax.{w32}
+use mir.Syntax.{w32, w64}
 use mir.Val.{SFits, toZ}
+use lib.Signed.{mag}
 use mir.Facts.{toZ-ofZ}
+use Rattle.number.proofs.Fits.{widen}
 use Rattle.range.proofs.Ranges.{in-fits, in-mag}
 use Rattle.source.proofs.Blends.{blended-in}
 use Rattle.sample.specs.declared.Inputs.{Inputs}
 use Rattle.sample.specs.declared.Sums.{Sums}
+use Rattle.sample.specs.Sample.{corrected, wasClipped}
 use Rattle.sample.specs.Sums.{Sample, samplesIn, previous, summed}
 use Rattle.sample.specs.Inside.{Spare}
 use Rattle.sample.proofs.Corrections.{corrected-in}
 use Rattle.sample.proofs.Rooms.{spare-room, spare-more, spare-at}
 use Rattle.sample.proofs.Slices.{sampleAt, previous-after}
 use Rattle.summing.specs.declared.Probe.{Probe}
-use Rattle.summing.specs.declared.Both.{Both}
+use Rattle.summing.specs.declared.Reading.{Reading}
 use Rattle.summing.specs.declared.Tally.{Tally}
-use Rattle.summing.specs.Inside.{bothOf, probedAll, probed, tallyOf, takenInto, Within}
+use Rattle.summing.specs.Inside.{bothOf, probedAll, probed, tallyOf, clippedEach, readingOf, takenInto, Small, Within}
 use Rattle.summing.proofs.Tallies.{tally-more, small-of, tally-end}
-use Rattle.summing.proofs.Probes.{probe-more, probe-end, both-within}
+use Rattle.summing.proofs.Probes.{probe-more, probe-end, both-in, reading-within}
 use Rattle.summing.proofs.run_with.Statement.{statement}
 use Rattle.summing.proofs.run_with.Tie as tie
 
@@ -39,8 +42,8 @@ record Of (p : Probe) (v s1 s3 : List ℤ) (s₀ : Sums) (old1 old3 : ℕ) (t : 
   sums : Sums
   spare : Spare sums (length v - k)
   goes-on : probedAll p sums (drop k (samplesIn v s1 s3)) ≡ probedAll p s₀ (samplesIn v s1 s3)
-  before1 : toZ w32 old1 ≡ bothOf p (previous sums (inputs s1 s3 k)) .s1 .value
-  before3 : toZ w32 old3 ≡ bothOf p (previous sums (inputs s1 s3 k)) .s3 .value
+  before1 : toZ w64 old1 ≡ bothOf p (previous sums (inputs s1 s3 k)) .s1
+  before3 : toZ w64 old3 ≡ bothOf p (previous sums (inputs s1 s3 k)) .s3
   tally : t ≡ tallyOf sums
   last : 0 < k → (sums .seen ≡ true) × (sums .raw ≡ inputs s1 s3 (k - 1))
 
@@ -55,12 +58,24 @@ spare-next : (p : Probe) (s : Sums) (x : Sample) (k : ℕ) → Spare s (suc k) �
 unfolding probed
 spare-next p s x k h = spare-more s _ _ _ _ _ _ (x .1) (corrected-in _ _ _) (blended-in _ _ _) (blended-in _ _ _) k h
 
-take-same : (p : Probe) {t t′ : Tally} {v v′ a a′ b b′ : ℤ} {now now′ : Both} → t ≡ t′ → v ≡ v′ → now ≡ now′ → a ≡ a′ → b ≡ b′ →
-    takenInto t p v now a b ≡ takenInto t′ p v′ now′ a′ b′
-take-same p e f g h i = rw (e, f, g, h, i)
+-- a value of the range has 64 bits
+wide : {z : ℤ} → mag z < 8388608 → SFits w64 z
+wide {z} h = widen (in-fits (in-mag z h))
 
-take-next : (p : Probe) (s : Sums) (x : Sample) → (let old = bothOf p (previous s (x .1)) in takenInto (tallyOf s) p (x .0) (bothOf p (x .1)) (old .s1 .value) (old .s3 .value)) ≡ tallyOf (probed p s x)
-unfolding probed takenInto
+read-same : (p : Probe) {n n′ : ℕ} {v v′ a a′ b b′ : ℤ} → n ≡ n′ → v ≡ v′ → a ≡ a′ → b ≡ b′ →
+    readingOf n p (v, record { s1 = a; s3 = b }) ≡ readingOf n′ p (v′, record { s1 = a′; s3 = b′ })
+read-same p e f g h = rw (e, f, g, h)
+
+read-inputs : (n : ℕ) (p : Probe) (x : Sample) → (readingOf n p x .s1 ≡ bothOf p (x .1) .s1) × (readingOf n p x .s3 ≡ bothOf p (x .1) .s3)
+unfolding readingOf clippedEach bothOf corrected
+read-inputs n p x = (refl, refl)
+
+take-same : (p : Probe) {t t′ : Tally} {x x′ : Reading} {a a′ b b′ : ℤ} → t ≡ t′ → x ≡ x′ → a ≡ a′ → b ≡ b′ →
+    takenInto t p x (record { s1 = a; s3 = b }) ≡ takenInto t′ p x′ (record { s1 = a′; s3 = b′ })
+take-same p e f g h = rw (e, f, g, h)
+
+take-next : (p : Probe) (s : Sums) (x : Sample) → takenInto (tallyOf s) p (readingOf (tallyOf s .clips) p x) (bothOf p (previous s (x .1))) ≡ tallyOf (probed p s x)
+unfolding probed takenInto readingOf clippedEach bothOf corrected wasClipped
 take-next p s x = tally-more s _ _ _ _ _ _ (x .1)
 
 previous-next : (p : Probe) (s : Sums) (x : Sample) (raw : Inputs) → previous (probed p s x) raw ≡ x .1
@@ -71,52 +86,59 @@ seen-next : (p : Probe) (s : Sums) (x : Sample) → (probed p s x .seen ≡ true
 unfolding probed summed
 seen-next p s x = (refl, refl)
 
+first1-fits : (c : tie.After-struct-told Inv-loop μ-loop) → SFits w32 (c .before .before .args .first .s1)
+first1-fits c = search needs
+
+first3-fits : (c : tie.After-struct-told2 Inv-loop μ-loop) → SFits w32 (c .before .before .before .before .args .first .s3)
+first3-fits c = search needs
+
+cast-old1 : tie.Need-cast-old1 Inv-loop μ-loop
+cast-old1 c = rw (toZ-ofZ (first1-fits c)) (widen (first1-fits c))
+
+cast-old3 : tie.Need-cast-old3 Inv-loop μ-loop
+cast-old3 c = rw (toZ-ofZ (first3-fits c)) (widen (first3-fits c))
+
 tally-of-requires : tie.Need-tally-of-requires Inv-loop μ-loop
-tally-of-requires c κs = let start = c .before .before in spare-room (start .args .s0) _ (start .pre .0 .1) .clips
+tally-of-requires c κs = let start = c .before .before .before .before in spare-room (start .args .s0) _ (start .pre .0 .1) .clips
 
 loop-holds : tie.Need-loop-holds Inv-loop μ-loop
 loop-holds c =
-    let start = c .before .before .before in
-    let first = start .args .first in
-    let w : Within first = rw (start .pre .1 .1) (both-within (start .args .p) _) in
-    let h : SFits w32 (first .s1 .value) = in-fits (in-mag (first .s1 .value) (w .s1)) in
-    let k : SFits w32 (first .s3 .value) = in-fits (in-mag (first .s3 .value) (w .s3)) in
+    let start = c .before .before .before .before .before in
+    let h = first1-fits (c .before .before .before) in
+    let k = first3-fits (c .before) in
     let n = length (now (start .args .v)) in (
       omega arith,
       record {
         sums = start .args .s0;
         spare = spare-at (start .args .s0) n (n - 0) (omega arith) (start .pre .0 .1);
         goes-on = refl;
-        before1 = rw (toZ-ofZ h) (ap (λ (b : Both). b .s1 .value) (start .pre .1 .1));
-        before3 = rw (toZ-ofZ k) (ap (λ (b : Both). b .s3 .value) (start .pre .1 .1));
+        before1 = rw (toZ-ofZ h, toZ-ofZ (widen h)) (ap (λ (b : Inputs). b .s1) (start .pre .1 .1));
+        before3 = rw (toZ-ofZ k, toZ-ofZ (widen k)) (ap (λ (b : Inputs). b .s3) (start .pre .1 .1));
         tally = c .tally-of .ensures;
         last = λ h. absurd (not-suc-le-zero h);
       },
     )
 
 abbrev start-of : tie.In-loop Inv-loop μ-loop → tie.Start Inv-loop μ-loop
-start-of c = c .before .before .before .before .before
+start-of c = c .before .before .before .before .before .before .before
 
-mul-correct-both : tie.Need-mul-correct-both Inv-loop μ-loop
-mul-correct-both c = search needs
+mul-read : tie.Need-mul-read Inv-loop μ-loop
+mul-read c = search needs
 
-shared-slice-copy-out-correct-both : tie.Need-shared-slice-copy-out-correct-both Inv-loop μ-loop
-shared-slice-copy-out-correct-both c = omega (arith, c .loop-test .taken, start-of c .pre .1)
+shared-slice-copy-out-read : tie.Need-shared-slice-copy-out-read Inv-loop μ-loop
+shared-slice-copy-out-read c = omega (arith, c .loop-test .taken)
 
-mul-correct-both-2 : tie.Need-mul-correct-both-2 Inv-loop μ-loop
-mul-correct-both-2 c = search needs
+mul-read-2 : tie.Need-mul-read-2 Inv-loop μ-loop
+mul-read-2 c = search needs
 
-shared-slice-copy-out-correct-both-2 : tie.Need-shared-slice-copy-out-correct-both-2 Inv-loop μ-loop
-shared-slice-copy-out-correct-both-2 c = omega (arith, c .before .loop-test .taken, start-of (c .before) .pre .1)
+shared-slice-copy-out-read-2 : tie.Need-shared-slice-copy-out-read-2 Inv-loop μ-loop
+shared-slice-copy-out-read-2 c = omega (arith, c .before .loop-test .taken, start-of (c .before) .pre .1)
 
-correct-both-requires : tie.Need-correct-both-requires Inv-loop μ-loop
-correct-both-requires c κs = search needs
+mul-read-3 : tie.Need-mul-read-3 Inv-loop μ-loop
+mul-read-3 c = search needs
 
-mul-take : tie.Need-mul-take Inv-loop μ-loop
-mul-take c = search needs
-
-shared-slice-copy-out-take : tie.Need-shared-slice-copy-out-take Inv-loop μ-loop
-shared-slice-copy-out-take c = omega (arith, c .before .before .before .loop-test .taken)
+shared-slice-copy-out-read-3 : tie.Need-shared-slice-copy-out-read-3 Inv-loop μ-loop
+shared-slice-copy-out-read-3 c = omega (arith, c .before .before .loop-test .taken, start-of (c .before .before) .pre .1)
 
 -- there is a sample, and a block's length is small
 turn : (c : tie.In-loop Inv-loop μ-loop) → (c .before .loop .k < length (now (start-of c .args .v))) × (length (now (start-of c .args .v)) ≤ 4096)
@@ -126,36 +148,45 @@ turn c = (c .loop-test .taken, omega (arith, start-of c .pre .0 .1 .few))
 abbrev sample-of : tie.In-loop Inv-loop μ-loop → Sample
 sample-of c = let a = start-of c .args in sampleAt (now (a .v)) (now (a .s1)) (now (a .s3)) (c .before .loop .k)
 
-s1-fits : (c : tie.After-correct-both-arg Inv-loop μ-loop) → SFits w32 (sample-of (c .before) .1 .s1)
-s1-fits c = search needs
-
-s3-fits : (c : tie.After-correct-both-arg2 Inv-loop μ-loop) → SFits w32 (sample-of (c .before .before) .1 .s3)
-s3-fits c = search needs
-
-v-fits : (c : tie.After-take-arg Inv-loop μ-loop) → SFits w32 (sample-of (c .before .before .before .before) .0)
+v-fits : (c : tie.After-read-arg Inv-loop μ-loop) → SFits w32 (sample-of (c .before) .0)
 v-fits c = search needs
 
-now-is : (c : tie.After-correct-both Inv-loop μ-loop) →
-    let here = c .before .before .before in
-    c .correct-both .result ≡ bothOf (start-of here .args .p) (sample-of here .1)
-now-is c = c .correct-both .ensures ∙ rw (toZ-ofZ (s1-fits (c .before .before)), toZ-ofZ (s3-fits (c .before)))
+s1-fits : (c : tie.After-read-arg2 Inv-loop μ-loop) → SFits w32 (sample-of (c .before .before) .1 .s1)
+s1-fits c = search needs
 
--- the corrected inputs in the range
-now-within : (c : tie.After-correct-both Inv-loop μ-loop) → Within (c .correct-both .result)
-now-within c = let here = c .before .before .before in rw (now-is c) (both-within (start-of here .args .p) (sample-of here .1))
+s3-fits : (c : tie.After-read-arg3 Inv-loop μ-loop) → SFits w32 (sample-of (c .before .before .before) .1 .s3)
+s3-fits c = search needs
+
+small : (c : tie.At-loop Inv-loop μ-loop) → Small (c .loop .t)
+small c = let o = c .loop .inv .1 in rw (o .tally) (small-of (o .sums) (spare-room (o .sums) _ (o .spare)))
+
+read-requires : tie.Need-read-requires Inv-loop μ-loop
+read-requires c κs = small (c .before .before .before .before) .clips
+
+-- what was read is the sample of this turn
+read-is : (c : tie.After-read Inv-loop μ-loop) →
+    let here = c .before .before .before .before in
+    c .read .result ≡ readingOf (tallyOf (here .before .loop .inv .1 .sums) .clips) (start-of here .args .p) (sample-of here)
+read-is c =
+    let third = c .before in
+    let here = third .before .before .before in
+    c .read .ensures
+    ∙ read-same (start-of here .args .p) (ap (λ (t : Tally). t .clips) (here .before .loop .inv .1 .tally)) (toZ-ofZ (v-fits (third .before .before))) (toZ-ofZ (s1-fits (third .before))) (toZ-ofZ (s3-fits third))
+
+read-in : (c : tie.After-read Inv-loop μ-loop) → Within (c .read .result)
+read-in c = rw (read-is c) (reading-within _ _ _)
 
 take-requires : tie.Need-take-requires Inv-loop μ-loop
 take-requires c κs =
     let here = c .before .before .before .before in
     let top = here .before in
-    let p = start-of here .args .p in
     let o = top .loop .inv .1 in
-    let old = both-within p (previous (o .sums) (sample-of here .1)) in (
-      rw (o .tally) (small-of (o .sums) (spare-room (o .sums) _ (o .spare))),
+    let old = both-in (start-of here .args .p) (previous (o .sums) (sample-of here .1)) in (
+      small top,
       start-of here .pre .0 .0,
-      now-within (c .before),
-      rw (o .before1) (old .s1),
-      rw (o .before3) (old .s3),
+      read-in c,
+      rw (o .before1) (old .0),
+      rw (o .before3) (old .1),
     )
 
 add-k : tie.Need-add-k Inv-loop μ-loop
@@ -169,18 +200,18 @@ take-is : (c : tie.After-take Inv-loop μ-loop) →
     let here = c .before .before .before .before .before in
     c .take .result ≡ tallyOf (probed (start-of here .args .p) (here .before .loop .inv .1 .sums) (sample-of here))
 take-is c =
-    let now′ = c .before .before in
-    let here = now′ .before .before .before in
+    let x = c .before in
+    let here = x .before .before .before .before in
     let o = here .before .loop .inv .1 in
     c .take .ensures
-    ∙ take-same (start-of here .args .p) (o .tally) (toZ-ofZ (v-fits (c .before))) (now-is now′) (o .before1) (o .before3)
+    ∙ take-same (start-of here .args .p) (o .tally) (read-is x) (o .before1) (o .before3)
     ∙ take-next (start-of here .args .p) (o .sums) (sample-of here)
 
 loop-again : tie.Need-loop-again Inv-loop μ-loop
 loop-again c =
     let taken = c .before .before in
-    let now′ = taken .before .before in
-    let inside = now′ .before .before .before in
+    let read = taken .before in
+    let inside = read .before .before .before .before in
     let top = inside .before in
     let start = start-of inside in
     let p = start .args .p in
@@ -194,42 +225,43 @@ loop-again c =
     let here = turn inside in
     let less : suc (length v - (k + 1)) ≡ length v - k = omega (arith, here) in
     let back : k + 1 - 1 ≡ k = omega arith in
-    let was = now-is now′ ∙ ap (bothOf p) (sym (previous-next p s x (inputs s1 s3 (k + 1)))) in
-    let w = now-within now′ in (
+    let same = read-inputs (tallyOf s .clips) p x in
+    let was = ap (bothOf p) (sym (previous-next p s x (inputs s1 s3 (k + 1)))) in
+    let w = read-in read in (
       omega (arith, here),
       record {
         sums = probed p s x;
         spare = spare-next p s x (length v - (k + 1)) (spare-at s (length v - k) (suc (length v - (k + 1))) (sym less) (o .spare));
         goes-on = sym (probe-more p s v s1 s3 k (start .pre .1 .0 .0) (start .pre .1 .0 .1) (here .0)) ∙ o .goes-on;
-        before1 = rw (toZ-ofZ (in-fits (in-mag (now′ .correct-both .result .s1 .value) (w .s1)))) (ap (λ (b : Both). b .s1 .value) was);
-        before3 = rw (toZ-ofZ (in-fits (in-mag (now′ .correct-both .result .s3 .value) (w .s3)))) (ap (λ (b : Both). b .s3 .value) was);
+        before1 = toZ-ofZ (wide (w .s1)) ∙ ap (λ (r : Reading). r .s1) (read-is read) ∙ same .0 ∙ ap (λ (b : Inputs). b .s1) was;
+        before3 = toZ-ofZ (wide (w .s3)) ∙ ap (λ (r : Reading). r .s3) (read-is read) ∙ same .1 ∙ ap (λ (b : Inputs). b .s3) was;
         tally = take-is taken;
         last = λ h. (seen-next p s x .0, seen-next p s x .1 ∙ ap (inputs s1 s3) (sym back));
       },
     )
 
 sub-last : tie.Need-sub-last Inv-loop μ-loop
-sub-last c = omega (arith, c .before .before .before .before .before .pre .0 .2)
+sub-last c = omega (arith, c .before .before .before .before .before .before .before .pre .0 .2)
 
-mul-t22 : tie.Need-mul-t22 Inv-loop μ-loop
-mul-t22 c = search needs
+mul-t24 : tie.Need-mul-t24 Inv-loop μ-loop
+mul-t24 c = search needs
 
-shared-slice-copy-out-t24 : tie.Need-shared-slice-copy-out-t24 Inv-loop μ-loop
-shared-slice-copy-out-t24 c = let start = c .before .before .before .before .before in omega (arith, start .pre .0 .2, start .pre .1)
+shared-slice-copy-out-t26 : tie.Need-shared-slice-copy-out-t26 Inv-loop μ-loop
+shared-slice-copy-out-t26 c = let start = c .before .before .before .before .before .before .before in omega (arith, start .pre .0 .2, start .pre .1)
 
-mul-t25 : tie.Need-mul-t25 Inv-loop μ-loop
-mul-t25 c = search needs
+mul-t27 : tie.Need-mul-t27 Inv-loop μ-loop
+mul-t27 c = search needs
 
-shared-slice-copy-out-t27 : tie.Need-shared-slice-copy-out-t27 Inv-loop μ-loop
-shared-slice-copy-out-t27 c = let start = c .before .before .before .before .before .before in omega (arith, start .pre .0 .2, start .pre .1)
+shared-slice-copy-out-t29 : tie.Need-shared-slice-copy-out-t29 Inv-loop μ-loop
+shared-slice-copy-out-t29 c = let start = c .before .before .before .before .before .before .before .before in omega (arith, start .pre .0 .2, start .pre .1)
 
 sums-after-requires : tie.Need-sums-after-requires Inv-loop μ-loop
 sums-after-requires c κs = search needs
 
-last1-fits : (c : tie.After-t24 Inv-loop μ-loop) → let a = c .before .before .before .before .before .before .args in SFits w32 (getD (now (a .s1)) (length (now (a .v)) - 1) (pos 0))
+last1-fits : (c : tie.After-t26 Inv-loop μ-loop) → let a = c .before .before .before .before .before .before .before .before .args in SFits w32 (getD (now (a .s1)) (length (now (a .v)) - 1) (pos 0))
 last1-fits c = search needs
 
-last3-fits : (c : tie.After-t27 Inv-loop μ-loop) → let a = c .before .before .before .before .before .before .before .args in SFits w32 (getD (now (a .s3)) (length (now (a .v)) - 1) (pos 0))
+last3-fits : (c : tie.After-t29 Inv-loop μ-loop) → let a = c .before .before .before .before .before .before .before .before .before .args in SFits w32 (getD (now (a .s3)) (length (now (a .v)) - 1) (pos 0))
 last3-fits c = search needs
 
 returns : tie.Need-returns Inv-loop μ-loop
@@ -237,7 +269,7 @@ returns c =
     let arg = c .before in
     let done = arg .before .before in
     let top = done .before in
-    let start = top .before .before .before .before in
+    let start = top .before .before .before .before .before .before in
     let v = now (start .args .v) in
     let s1 = now (start .args .s1) in
     let s3 = now (start .args .s3) in
@@ -257,23 +289,25 @@ run-with-spec =
     (tie.spec
     Inv-loop
     μ-loop
+    cast-old1
+    cast-old3
     tally-of-requires
     loop-holds
-    mul-correct-both
-    shared-slice-copy-out-correct-both
-    mul-correct-both-2
-    shared-slice-copy-out-correct-both-2
-    correct-both-requires
-    mul-take
-    shared-slice-copy-out-take
+    mul-read
+    shared-slice-copy-out-read
+    mul-read-2
+    shared-slice-copy-out-read-2
+    mul-read-3
+    shared-slice-copy-out-read-3
+    read-requires
     take-requires
     add-k
     loop-less
     loop-again
     sub-last
-    mul-t22
-    shared-slice-copy-out-t24
-    mul-t25
-    shared-slice-copy-out-t27
+    mul-t24
+    shared-slice-copy-out-t26
+    mul-t27
+    shared-slice-copy-out-t29
     sums-after-requires
     returns)

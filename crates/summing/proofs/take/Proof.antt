@@ -1,24 +1,19 @@
 -- `take` meets its contract.
+use Rattle.summing.specs.declared.Probe.{Probe}
+use Rattle.summing.specs.declared.Reading.{Reading}
 use Rattle.summing.specs.Inside.{mixedBoth, takenInto}
-use Rattle.sample.proofs.Corrections.{corrected-in}
-use Rattle.sample.specs.Sample.{correction}
+use Rattle.sample.specs.declared.Inputs.{Inputs}
 use Rattle.source.proofs.Blends.{blended-in}
 use Rattle.source.specs.Sources.{blended}
 use Rattle.range.proofs.Ranges.{in-fits, in-mag}
-use borrow.Author.Needs.{sfits-of}
+use lib.IntN.{ℤ}
+use borrow.Author.Needs.{needs, sfits-of}
 use mir.Facts.{toZ-ofZ}
 use mir.Val.{SFits}
 use mir.Syntax.{w32}
 use mathlib.Core.Path.{_≡_, _∙_}
-use borrow.Author.Needs.{needs}
 use Rattle.summing.proofs.take.Statement.{statement}
 use Rattle.summing.proofs.take.Tie as tie
-
-correct-requires : tie.Need-correct-requires
-correct-requires c κs = search needs
-
-count-requires : tie.Need-count-requires
-count-requires c κs = c .before .before .before .pre .0 .clips
 
 mix-both-requires : tie.Need-mix-both-requires
 mix-both-requires c κs = search needs
@@ -29,40 +24,28 @@ blend-requires c κs = search needs
 blend-requires-2 : tie.Need-blend-requires-2
 blend-requires-2 c κs = search needs
 
--- the corrected voltage
-voltage-is : (c : tie.After-correct) → let a = c .before .before .before .args in c .correct .result ≡ correction (a .v) (a .p .voffs) (a .p .vgain)
-voltage-is c =
-    let start = c .before .before .before in
-    let h : SFits w32 (start .args .p .voffs) = search needs in
-    let k : SFits w32 (start .args .p .vgain) = search needs in
-    c .correct .ensures ∙ rw (toZ-ofZ (start .fits .v), toZ-ofZ h, toZ-ofZ k)
+-- the inputs as they are mixed
+abbrev mixed-of : Probe → Reading → ℤ → ℤ → Inputs
+mixed-of p x old1 old3 = mixedBoth p (record { s1 = x .s1; s3 = x .s3 }) (record { s1 = old1; s3 = old3 })
 
-v-fits : (c : tie.After-correct) → SFits w32 (c .correct .result .value)
-unfolding correction
-v-fits c = in-fits (in-mag (c .correct .result .value) (rw (voltage-is c) (corrected-in _ _ _)))
-
--- both sources' currents, of the inputs as they are mixed
+-- both sources' currents
 a-is : (c : tie.After-blend) →
-    let mixed = c .before .before .before in
-    let a = mixed .before .before .before .before .before .args in
-    c .blend .result ≡ (let y = mixedBoth (a .p) (a .now) (a .old1) (a .old3) in blended (a .p .a) (y .s1) (y .s3))
+    let a = c .before .before .before .before .args in
+    c .blend .result ≡ (let y = mixed-of (a .p) (a .x) (a .old1) (a .old3) in blended (a .p .a) (y .s1) (y .s3))
 a-is c =
     let mixed = c .before .before .before in
-    let start = mixed .before .before .before .before .before in
     let h : SFits w32 (mixed .mix-both .result .s1) = search needs in
     let k : SFits w32 (mixed .mix-both .result .s3) = search needs in
-    c .blend .ensures ∙ rw (toZ-ofZ h, toZ-ofZ k, mixed .mix-both .ensures, toZ-ofZ (start .fits .old1), toZ-ofZ (start .fits .old3))
+    c .blend .ensures ∙ rw (toZ-ofZ h, toZ-ofZ k, mixed .mix-both .ensures, toZ-ofZ (mixed .before .fits .old1), toZ-ofZ (mixed .before .fits .old3))
 
 b-is : (c : tie.After-blend2) →
-    let mixed = c .before .before .before .before .before .before in
-    let a = mixed .before .before .before .before .before .args in
-    c .blend2 .result ≡ (let y = mixedBoth (a .p) (a .now) (a .old1) (a .old3) in blended (a .p .b) (y .s1) (y .s3))
+    let a = c .before .before .before .before .before .before .before .args in
+    c .blend2 .result ≡ (let y = mixed-of (a .p) (a .x) (a .old1) (a .old3) in blended (a .p .b) (y .s1) (y .s3))
 b-is c =
     let mixed = c .before .before .before .before .before .before in
-    let start = mixed .before .before .before .before .before in
     let h : SFits w32 (mixed .mix-both .result .s1) = search needs in
     let k : SFits w32 (mixed .mix-both .result .s3) = search needs in
-    c .blend2 .ensures ∙ rw (toZ-ofZ h, toZ-ofZ k, mixed .mix-both .ensures, toZ-ofZ (start .fits .old1), toZ-ofZ (start .fits .old3))
+    c .blend2 .ensures ∙ rw (toZ-ofZ h, toZ-ofZ k, mixed .mix-both .ensures, toZ-ofZ (mixed .before .fits .old1), toZ-ofZ (mixed .before .fits .old3))
 
 a-fits : (c : tie.After-blend) → SFits w32 (c .blend .result)
 a-fits c = sfits-of (c .blend .ok)
@@ -70,22 +53,26 @@ a-fits c = sfits-of (c .blend .ok)
 b-fits : (c : tie.After-blend2) → SFits w32 (c .blend2 .result)
 b-fits c = sfits-of (c .blend2 .ok)
 
+v-fits : (c : tie.Start) → SFits w32 (c .args .x .v)
+v-fits c = in-fits (in-mag _ (c .pre .2 .v))
+
 add-requires : tie.Need-add-requires
-unfolding correction
-add-requires c κs = (c .before .before .before .before .before .before .before .before .before .before .before .before .pre .0, rw (toZ-ofZ (v-fits (c .before .before .before .before .before .before .before .before .before)), voltage-is (c .before .before .before .before .before .before .before .before .before)) (corrected-in _ _ _), rw (toZ-ofZ (a-fits (c .before .before .before .before)), a-is (c .before .before .before .before)) (blended-in _ _ _), rw (toZ-ofZ (b-fits (c .before)), b-is (c .before)) (blended-in _ _ _))
+add-requires c κs =
+    let b = c .before in
+    let a = b .before .before .before in
+    let start = a .before .before .before .before in (
+      start .pre .0,
+      rw (toZ-ofZ (v-fits start)) (start .pre .2 .v),
+      rw (toZ-ofZ (a-fits a), a-is a) (blended-in _ _ _),
+      rw (toZ-ofZ (b-fits b), b-is b) (blended-in _ _ _),
+    )
 
 returns : tie.Need-returns
-unfolding takenInto correction
-returns c = c .add .ensures ∙ rw (c .before .before .before .before .before .before .before .before .before .count .ensures, toZ-ofZ (v-fits (c .before .before .before .before .before .before .before .before .before .before)), voltage-is (c .before .before .before .before .before .before .before .before .before .before), toZ-ofZ (a-fits (c .before .before .before .before .before)), a-is (c .before .before .before .before .before), toZ-ofZ (b-fits (c .before .before)), b-is (c .before .before))
+unfolding takenInto
+returns c =
+    let b = c .before .before in
+    let a = b .before .before .before in
+    c .add .ensures ∙ rw (toZ-ofZ (v-fits (a .before .before .before .before)), toZ-ofZ (a-fits a), a-is a, toZ-ofZ (b-fits b), b-is b)
 
 pub take-spec : {M : Type 1} → statement M
-take-spec =
-    tie.close
-    (tie.spec
-    correct-requires
-    count-requires
-    mix-both-requires
-    blend-requires
-    blend-requires-2
-    add-requires
-    returns)
+take-spec = tie.close (tie.spec mix-both-requires blend-requires blend-requires-2 add-requires returns)
