@@ -10,6 +10,7 @@ use denote.Ref.{now}
 use Rattle.promise.specs.Determined.{Allowed}
 use Rattle.steps.specs.Calls.{Reply, Methods, Log, noted, Ran, ended, called}
 use Rattle.address.specs.declared.WordAddr.{WordAddr}
+use Rattle.address.specs.declared.ByteAddr.{ByteAddr}
 use Rattle.alarm.specs.declared.Asked.{Asked}
 use Rattle.aberzhan.specs.declared.Module.{Module}
 use Rattle.aberzhan.specs.declared.Stepped.{Stepped}
@@ -18,7 +19,7 @@ use Rattle.aberzhan.specs.declared.Looked.{Looked}
 use Rattle.aberzhan.specs.declared.Polled.{Polled}
 use Rattle.aberzhan.specs.declared.Cards.{Cards}
 use Rattle.calls.specs.Ports.{aberzhan}
-use Rattle.aberzhan.specs.Module.{startOf, holdOf}
+use Rattle.aberzhan.specs.Module.{startOf, holdOf, readOf}
 use Rattle.aberzhan.specs.Polling.{pollOf, pollBuffer}
 use Rattle.aberzhan.specs.Cards.{cardsOf}
 use Rattle.calls.specs.Calls.{stateOf, Call, callOpen, callWrite, callCommit, callDrop, callHold, callRead, callBlock, callReset, stepOf, callOf, fromStep, fromHold, fromRead, returned, program}
@@ -60,6 +61,10 @@ Shows m r = (κs : Lfts 0) × (a : Dens κs cards-k.ps) × Allowed 0 cards-k.ps 
 -- `Module::hold` of the module m, at the port p, may return r
 abbrev pub Holds : Module → ℤ → Holding → Type 0
 Holds m p r = (κs : Lfts 0) × (a : Dens κs holds-k.ps) × Allowed 0 holds-k.ps holds-k.r holds.Post κs a r × (a .0 ≡ m) × (a .1 .0 ≡ p)
+
+-- `Module::read` of the module m, at the port p and of the byte address b, may return r
+abbrev pub Reads : Module → ℤ → ByteAddr → Looked → Type 0
+Reads m p b r = (κs : Lfts 0) × (a : Dens κs reads-k.ps) × Allowed 0 reads-k.ps reads-k.r reads.Post κs a r × (a .0 ≡ m) × (a .1 .0 ≡ p) × (a .1 .1 .0 ≡ b)
 
 -- `Module::poll` of the module m, with this packet and these bytes of a lent buffer, may return r and leave these bytes in it
 abbrev pub Polls : Module → List ℕ → List ℕ → Polled → List ℕ → Type 0
@@ -108,6 +113,9 @@ shown-is m r (κs, a, h, e) = rw e at (h .allowed)
 
 pub held-by : (m : Module) (p : ℤ) (r : Holding) → Holds m p r → r ≡ holdOf m p
 held-by m p r (κs, a, h, e, f) = rw (e, f) at (h .allowed)
+
+pub read-by : (m : Module) (p : ℤ) (b : ByteAddr) (r : Looked) → Reads m p b r → r ≡ readOf m p b
+read-by m p b r (κs, a, h, e, f, g) = rw (e, f, g) at (h .allowed)
 
 pub polled-is : (m : Module) (packet buffer : List ℕ) (r : Polled) (left : List ℕ) → Polls m packet buffer r left →
     (r ≡ pollOf m packet (length buffer)) × (left ≡ pollBuffer m packet buffer)

@@ -19,13 +19,13 @@ use Rattle.aberzhan.specs.Module.{freshModule}
 use Rattle.calls.specs.Calls.{stateOf, numberOf}
 use Rattle.calls.proofs.Contracts.{Holds}
 use Rattle.calls.proofs.Told.{hold-tells, hold-refused}
-use Rattle.demands.specs.Program.{first, steps, closes}
+use Rattle.demands.specs.Program.{Program, first, steps, closes}
 use Rattle.demands.specs.Holds.{lastly, Telling, HoldsTell}
 use Rattle.demands.proofs.Demand3.{OfFresh, of-start, module-demand3}
 use Rattle.demands.proofs.Alarms.{every-alarm}
 
 -- the interval that the work shows as the last
-abbrev shown : Work → Option Closed
+abbrev pub shown : Work → Option Closed
 shown w = cond (w .any) (some (w .last)) none
 
 close-shown : (c : Card) (w : Work) (h : List Closed) → shown (closedWork c w) ≡ lastly (h ++ (lastOf c w ∷ []))
@@ -49,11 +49,16 @@ by-any : (m : Module) (q : Port) (r : Holding) → Holds m (numberOf (some q)) r
 by-any m q r h true e = hold-tells m q r h e
 by-any m q r h false e = hold-refused m q r h e
 
-pub holds-tell : HoldsTell
-holds-tell p q r h =
-    let m = p .log .end in
+-- at the end of a program that is the interval that closed last
+pub shown-last : (p : Program) → shown (p .log .end .meter .work) ≡ lastly (closes p)
+shown-last p =
     let begun = of-start (λ (m : Module). shown (m .meter .work) ≡ none) fresh-shown p in
     let ends = always-work core lasts ports (stateOf (first p)) (steps p) begun in
     let same = ap (λ (s : State aberzhan). s .meter .intervals .work) (module-demand3 p .as-calls .end) in
+    ap shown same ∙ ends
+
+pub holds-tell : HoldsTell
+holds-tell p q r h =
+    let m = p .log .end in
     subst (λ (a : Alarms). Telling (lastly (closes p)) a r) (every-alarm p .alarms)
-    (subst (λ (z : Option Closed). Telling z (m .watch .alarms) r) (ap shown same ∙ ends) (by-any m q r h (m .meter .work .any) refl))
+    (subst (λ (z : Option Closed). Telling z (m .watch .alarms) r) (shown-last p) (by-any m q r h (m .meter .work .any) refl))

@@ -10,5 +10,6 @@ pub mod Energy
 pub mod History
 pub mod Alarms
 pub mod Holds
+pub mod Readings
 pub mod Day
 pub mod Evening

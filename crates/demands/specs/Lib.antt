@@ -7,6 +7,7 @@ pub mod Cards
 pub mod Intervals
 pub mod Alarms
 pub mod Holds
+pub mod Readings
 pub mod EnergyHistory
 pub mod History
 pub mod Day

@@ -12,7 +12,6 @@ use mir.Val.{SFits}
 use mir.Syntax.{w32, w64}
 use mathlib.Core.Path.{_≡_, _∙_}
 use native.Mathlib.Omega.{arith}
-use borrow.Author.Needs.{needs}
 use Rattle.summing.proofs.mix_both.Statement.{statement}
 use Rattle.summing.proofs.mix_both.Tie as tie
 

@@ -12,7 +12,6 @@ use Rattle.range.specs.Range.{in24, outside24}
 use Rattle.range.proofs.Ranges.{in24-in, clipped-own, in-fits}
 use Rattle.sample.specs.Sample.{scaled}
 use Rattle.sample.proofs.Tests.{both-of}
-use Rattle.summing.specs.declared.Reading.{Reading}
 use Rattle.summing.specs.Inside.{oneMore, clippedEach, readingOf}
 use borrow.Author.Needs.{needs}
 use Rattle.summing.proofs.read.Statement.{statement}
