@@ -17,7 +17,7 @@ use Rattle.sample.specs.Inside.{Phased}
 use Rattle.sample.proofs.Corrections.{corrected-in}
 use Rattle.sample.proofs.Slices.{sampleAt, samples-long, samples-at}
 use Rattle.summing.specs.declared.Probe.{Probe}
-use Rattle.summing.specs.Inside.{probeOf, bothOf, mixedBoth, probed, probedAll, clippedEach, readingOf, Within}
+use Rattle.summing.specs.Inside.{probeOf, bothOf, mixedBoth, probed, probedAll, clippedEach, threeOf, Within}
 
 -- a turn of the loop
 module _ (p : Probe) (s : Sums) (v s1 s3 : List ℤ) (k : ℕ) (e : length v ≡ length s1) (f : length v ≡ length s3) where
@@ -49,6 +49,6 @@ pub both-in : (p : Probe) (raw : Inputs) → (mag (bothOf p raw .s1) < 8388608) 
 unfolding bothOf
 both-in p raw = (corrected-in (raw .s1) (p .ioffs) (p .igain), corrected-in (raw .s3) (p .ioffs) (p .igain))
 
-pub reading-within : (n : ℕ) (p : Probe) (x : Sample) → Within (readingOf n p x)
-unfolding readingOf clippedEach
-reading-within n p x = record { v = clipped-mag _; s1 = clipped-mag _; s3 = clipped-mag _ }
+pub three-within : (n : ℕ) (p : Probe) (x : Sample) → Within (threeOf n p x)
+unfolding threeOf clippedEach
+three-within n p x = record { v = clipped-mag _; s1 = clipped-mag _; s3 = clipped-mag _ }

@@ -17,7 +17,7 @@ use Rattle.sample.specs.Sample.{scaled, corrected, wasClipped, mixed}
 use Rattle.sample.specs.Sums.{Sample, joined, oneIf, summed, previous}
 use Rattle.sample.specs.Inside.{Flowing}
 use Rattle.summing.specs.declared.Probe.{Probe}
-use Rattle.summing.specs.declared.Reading.{Reading}
+use Rattle.summing.specs.declared.Three.{Three}
 use Rattle.summing.specs.declared.Tally.{Tally}
 
 -- what a sample needs of its card and of the configuration
@@ -72,11 +72,11 @@ unfoldable pub oneMore : ℕ → Bool → Bool → Bool → ℕ
 oneMore n v s1 s3 = n + oneIf v + oneIf s1 * 65536 + oneIf s3 * 4294967296
 
 -- the values of a sample clipped, and counted where that changes them: n was counted before
-unfoldable pub clippedEach : ℕ → ℤ → ℤ → ℤ → Reading
+unfoldable pub clippedEach : ℕ → ℤ → ℤ → ℤ → Three
 clippedEach n v s1 s3 = record { v = clipped v; s1 = clipped s1; s3 = clipped s3; clips = oneMore n (outside24 v) (outside24 s1) (outside24 s3) }
 
-unfoldable pub readingOf : ℕ → Probe → Sample → Reading
-readingOf n p x =
+unfoldable pub threeOf : ℕ → Probe → Sample → Three
+threeOf n p x =
     let raw = x .1 in
     clippedEach n (scaled (x .0) (p .voffs) (p .vgain)) (scaled (raw .s1) (p .ioffs) (p .igain)) (scaled (raw .s3) (p .ioffs) (p .igain))
 
@@ -88,7 +88,7 @@ joinedTo t v ia ib clips = record {
   clips = clips;
 }
 
-unfoldable pub takenInto : Tally → Probe → Reading → Inputs → Tally
+unfoldable pub takenInto : Tally → Probe → Three → Inputs → Tally
 takenInto t p x old =
     let y = mixedBoth p (record { s1 = x .s1; s3 = x .s3 }) old in
     joinedTo t (x .v) (blended (p .a) (y .s1) (y .s3)) (blended (p .b) (y .s1) (y .s3)) (x .clips)
@@ -101,7 +101,7 @@ pub record Small (t : Tally) : Type 0 where
   pub clips : t .clips ≤ 4096 * (1 + 65536 + 4294967296)
 
 -- all values of a sample in the 24-bit range
-pub record Within (x : Reading) : Type 0 where
+pub record Within (x : Three) : Type 0 where
   pub v : mag (x .v) < 8388608
   pub s1 : mag (x .s1) < 8388608
   pub s3 : mag (x .s3) < 8388608

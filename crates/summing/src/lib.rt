@@ -7,7 +7,7 @@ ghost use lib.ListN.{length, getD};
 ghost use Rattle.sample.specs.Sample.{mixed};
 ghost use Rattle.sample.specs.Sums.{joined, previous, samplesIn, addedAll, withSamples};
 ghost use Rattle.sample.specs.Inside.{Flowing, Few, Spare, Phased};
-ghost use Rattle.summing.specs.Inside.{probeOf, bothOf, mixedBoth, probedAll, clippedEach, readingOf};
+ghost use Rattle.summing.specs.Inside.{probeOf, bothOf, mixedBoth, probedAll, clippedEach, threeOf};
 ghost use Rattle.summing.specs.Inside.{unpacked, tallyOf, tallied, oneMore, joinedTo, takenInto, Small, Within};
 use card::Card;
 use card::names::IGAIN;
@@ -37,8 +37,8 @@ pub struct Probe {
     pub b: Multipliers,
 }
 
-// A sample's corrected voltage and inputs, and the counts of clipped ones with this sample's. (The inputs stay as wide as their mix is worked in.)
-pub struct Reading {
+// The three values of a sample, corrected, and the counts of clipped ones with it. (The inputs stay as wide as their mix is worked in.)
+pub struct Three {
     pub v: i32,
     pub s1: i64,
     pub s3: i64,
@@ -71,8 +71,8 @@ fn mix(phase: u16, now: i64, previous: i64) -> i64
     now + number::floor_div(phase as i64 * (previous - now), 12)
 }
 
-// Both inputs mixed with the previous ones.
-fn mix_both(p: Probe, x: Reading, old1: i64, old3: i64) -> Inputs
+// Both inputs, each mixed with its previous one.
+fn mix_both(p: Probe, x: Three, old1: i64, old3: i64) -> Inputs
     requires { ⌜ (p .phase ≤ 4095) × Within x × (mag old1 < 8388608) × (mag old3 < 8388608) ⌝ }
     ensures { λ r. ⌜ r ≡ mixedBoth p (record { s1 = x .s1; s3 = x .s3 }) (record { s1 = old1; s3 = old3 }) ⌝ }
 {
@@ -156,7 +156,7 @@ fn sums_after(mut s: Sums, t: Tally, raw: Inputs) -> Sums
     s
 }
 
-// The counts with a sample more; a test says whether its voltage, S1 and S3 were clipped.
+// The counts with a sample more; v, s1 and s3 say what of it was clipped.
 fn count(n: u64, v: bool, s1: bool, s3: bool) -> u64
     requires { ⌜ n ≤ 4096 * (1 + 65536 + 4294967296) ⌝ }
     ensures { λ r. ⌜ r ≡ oneMore n v s1 s3 ⌝ }
@@ -165,12 +165,12 @@ fn count(n: u64, v: bool, s1: bool, s3: bool) -> u64
 }
 
 // Each value of a sample clipped, and counted where that changed it.
-fn clip_each(n: u64, v: i64, s1: i64, s3: i64) -> Reading
+fn clip_each(n: u64, v: i64, s1: i64, s3: i64) -> Three
     requires { ⌜ n ≤ 4096 * (1 + 65536 + 4294967296) ⌝ }
     ensures { λ r. ⌜ r ≡ clippedEach n v s1 s3 ⌝ }
 {
     let clips = count(n, !range::holds(v), !range::holds(s1), !range::holds(s3));
-    Reading {
+    Three {
         v: range::clip(v),
         s1: range::clip(s1) as i64,
         s3: range::clip(s3) as i64,
@@ -178,16 +178,16 @@ fn clip_each(n: u64, v: i64, s1: i64, s3: i64) -> Reading
     }
 }
 
-// A sample, corrected. (As most are, it is within the range in all its values: one test tells, and nothing is clipped or counted.)
-fn read(n: u64, p: Probe, v: i32, s1: i32, s3: i32) -> Reading
+// A sample, corrected; n counts those clipped before it. (Most samples lie within the range: one test tells, and nothing is clipped or counted.)
+fn correct_all(n: u64, p: Probe, v: i32, s1: i32, s3: i32) -> Three
     requires { ⌜ n ≤ 4096 * (1 + 65536 + 4294967296) ⌝ }
-    ensures { λ r. ⌜ r ≡ readingOf n p (v, record { s1 = s1; s3 = s3 }) ⌝ }
+    ensures { λ r. ⌜ r ≡ threeOf n p (v, record { s1 = s1; s3 = s3 }) ⌝ }
 {
     let x = scale(v, p.voffs, p.vgain);
     let y = scale(s1, p.ioffs, p.igain);
     let z = scale(s3, p.ioffs, p.igain);
     if range::holds(x) & range::holds(y) & range::holds(z) {
-        return Reading {
+        return Three {
             v: x as i32,
             s1: y,
             s3: z,
@@ -213,7 +213,7 @@ fn add(t: Tally, v: i32, ia: i32, ib: i32, clips: u64) -> Tally
 }
 
 // One sample more; old1 and old3 are the previous inputs, corrected, which were counted with their own sample.
-fn take(t: Tally, p: Probe, x: Reading, old1: i64, old3: i64) -> Tally
+fn take(t: Tally, p: Probe, x: Three, old1: i64, old3: i64) -> Tally
     requires { ⌜ Small t × (p .phase ≤ 4095) × Within x × (mag old1 < 8388608) × (mag old3 < 8388608) ⌝ }
     ensures { λ r. ⌜ r ≡ takenInto t p x (record { s1 = old1; s3 = old3 }) ⌝ }
 {
@@ -223,6 +223,7 @@ fn take(t: Tally, p: Probe, x: Reading, old1: i64, old3: i64) -> Tally
     add(t, x.v, ia, ib, x.clips)
 }
 
+// Both inputs corrected.
 fn correct_both(p: Probe, s1: i32, s3: i32) -> Inputs
     ensures { λ r. ⌜ r ≡ bothOf p (record { s1 = s1; s3 = s3 }) ⌝ }
 {
@@ -257,7 +258,7 @@ fn run_with(s0: Sums, p: Probe, first: Inputs, v: &[i32], s1: &[i32], s3: &[i32]
     let mut t = tally_of(s0);
     let mut k: usize = 0;
     while k < v.len() {
-        let x = read(t.clips, p, v[k], s1[k], s3[k]);
+        let x = correct_all(t.clips, p, v[k], s1[k], s3[k]);
         t = take(t, p, x, old1, old3);
         old1 = x.s1;
         old3 = x.s3;

@@ -25,11 +25,11 @@ use Rattle.sample.proofs.Corrections.{corrected-in}
 use Rattle.sample.proofs.Rooms.{spare-room, spare-more, spare-at}
 use Rattle.sample.proofs.Slices.{sampleAt, previous-after}
 use Rattle.summing.specs.declared.Probe.{Probe}
-use Rattle.summing.specs.declared.Reading.{Reading}
+use Rattle.summing.specs.declared.Three.{Three}
 use Rattle.summing.specs.declared.Tally.{Tally}
-use Rattle.summing.specs.Inside.{bothOf, probedAll, probed, tallyOf, clippedEach, readingOf, takenInto, Small, Within}
+use Rattle.summing.specs.Inside.{bothOf, probedAll, probed, tallyOf, clippedEach, threeOf, takenInto, Small, Within}
 use Rattle.summing.proofs.Tallies.{tally-more, small-of, tally-end}
-use Rattle.summing.proofs.Probes.{probe-more, probe-end, both-in, reading-within}
+use Rattle.summing.proofs.Probes.{probe-more, probe-end, both-in, three-within}
 use Rattle.summing.proofs.run_with.Statement.{statement}
 use Rattle.summing.proofs.run_with.Tie as tie
 
@@ -62,20 +62,20 @@ spare-next p s x k h = spare-more s _ _ _ _ _ _ (x .1) (corrected-in _ _ _) (ble
 wide : {z : ℤ} → mag z < 8388608 → SFits w64 z
 wide {z} h = widen (in-fits (in-mag z h))
 
-read-same : (p : Probe) {n n′ : ℕ} {v v′ a a′ b b′ : ℤ} → n ≡ n′ → v ≡ v′ → a ≡ a′ → b ≡ b′ →
-    readingOf n p (v, record { s1 = a; s3 = b }) ≡ readingOf n′ p (v′, record { s1 = a′; s3 = b′ })
-read-same p e f g h = rw (e, f, g, h)
+three-same : (p : Probe) {n n′ : ℕ} {v v′ a a′ b b′ : ℤ} → n ≡ n′ → v ≡ v′ → a ≡ a′ → b ≡ b′ →
+    threeOf n p (v, record { s1 = a; s3 = b }) ≡ threeOf n′ p (v′, record { s1 = a′; s3 = b′ })
+three-same p e f g h = rw (e, f, g, h)
 
-read-inputs : (n : ℕ) (p : Probe) (x : Sample) → (readingOf n p x .s1 ≡ bothOf p (x .1) .s1) × (readingOf n p x .s3 ≡ bothOf p (x .1) .s3)
-unfolding readingOf clippedEach bothOf corrected
-read-inputs n p x = (refl, refl)
+three-inputs : (n : ℕ) (p : Probe) (x : Sample) → (threeOf n p x .s1 ≡ bothOf p (x .1) .s1) × (threeOf n p x .s3 ≡ bothOf p (x .1) .s3)
+unfolding threeOf clippedEach bothOf corrected
+three-inputs n p x = (refl, refl)
 
-take-same : (p : Probe) {t t′ : Tally} {x x′ : Reading} {a a′ b b′ : ℤ} → t ≡ t′ → x ≡ x′ → a ≡ a′ → b ≡ b′ →
+take-same : (p : Probe) {t t′ : Tally} {x x′ : Three} {a a′ b b′ : ℤ} → t ≡ t′ → x ≡ x′ → a ≡ a′ → b ≡ b′ →
     takenInto t p x (record { s1 = a; s3 = b }) ≡ takenInto t′ p x′ (record { s1 = a′; s3 = b′ })
 take-same p e f g h = rw (e, f, g, h)
 
-take-next : (p : Probe) (s : Sums) (x : Sample) → takenInto (tallyOf s) p (readingOf (tallyOf s .clips) p x) (bothOf p (previous s (x .1))) ≡ tallyOf (probed p s x)
-unfolding probed takenInto readingOf clippedEach bothOf corrected wasClipped
+take-next : (p : Probe) (s : Sums) (x : Sample) → takenInto (tallyOf s) p (threeOf (tallyOf s .clips) p x) (bothOf p (previous s (x .1))) ≡ tallyOf (probed p s x)
+unfolding probed takenInto threeOf clippedEach bothOf corrected wasClipped
 take-next p s x = tally-more s _ _ _ _ _ _ (x .1)
 
 previous-next : (p : Probe) (s : Sums) (x : Sample) (raw : Inputs) → previous (probed p s x) raw ≡ x .1
@@ -122,23 +122,23 @@ loop-holds c =
 abbrev start-of : tie.In-loop Inv-loop μ-loop → tie.Start Inv-loop μ-loop
 start-of c = c .before .before .before .before .before .before .before
 
-mul-read : tie.Need-mul-read Inv-loop μ-loop
-mul-read c = search needs
+mul-correct-all : tie.Need-mul-correct-all Inv-loop μ-loop
+mul-correct-all c = search needs
 
-shared-slice-copy-out-read : tie.Need-shared-slice-copy-out-read Inv-loop μ-loop
-shared-slice-copy-out-read c = omega (arith, c .loop-test .taken)
+shared-slice-copy-out-correct-all : tie.Need-shared-slice-copy-out-correct-all Inv-loop μ-loop
+shared-slice-copy-out-correct-all c = omega (arith, c .loop-test .taken)
 
-mul-read-2 : tie.Need-mul-read-2 Inv-loop μ-loop
-mul-read-2 c = search needs
+mul-correct-all-2 : tie.Need-mul-correct-all-2 Inv-loop μ-loop
+mul-correct-all-2 c = search needs
 
-shared-slice-copy-out-read-2 : tie.Need-shared-slice-copy-out-read-2 Inv-loop μ-loop
-shared-slice-copy-out-read-2 c = omega (arith, c .before .loop-test .taken, start-of (c .before) .pre .1)
+shared-slice-copy-out-correct-all-2 : tie.Need-shared-slice-copy-out-correct-all-2 Inv-loop μ-loop
+shared-slice-copy-out-correct-all-2 c = omega (arith, c .before .loop-test .taken, start-of (c .before) .pre .1)
 
-mul-read-3 : tie.Need-mul-read-3 Inv-loop μ-loop
-mul-read-3 c = search needs
+mul-correct-all-3 : tie.Need-mul-correct-all-3 Inv-loop μ-loop
+mul-correct-all-3 c = search needs
 
-shared-slice-copy-out-read-3 : tie.Need-shared-slice-copy-out-read-3 Inv-loop μ-loop
-shared-slice-copy-out-read-3 c = omega (arith, c .before .before .loop-test .taken, start-of (c .before .before) .pre .1)
+shared-slice-copy-out-correct-all-3 : tie.Need-shared-slice-copy-out-correct-all-3 Inv-loop μ-loop
+shared-slice-copy-out-correct-all-3 c = omega (arith, c .before .before .loop-test .taken, start-of (c .before .before) .pre .1)
 
 -- there is a sample, and a block's length is small
 turn : (c : tie.In-loop Inv-loop μ-loop) → (c .before .loop .k < length (now (start-of c .args .v))) × (length (now (start-of c .args .v)) ≤ 4096)
@@ -148,33 +148,33 @@ turn c = (c .loop-test .taken, omega (arith, start-of c .pre .0 .1 .few))
 abbrev sample-of : tie.In-loop Inv-loop μ-loop → Sample
 sample-of c = let a = start-of c .args in sampleAt (now (a .v)) (now (a .s1)) (now (a .s3)) (c .before .loop .k)
 
-v-fits : (c : tie.After-read-arg Inv-loop μ-loop) → SFits w32 (sample-of (c .before) .0)
+v-fits : (c : tie.After-correct-all-arg Inv-loop μ-loop) → SFits w32 (sample-of (c .before) .0)
 v-fits c = search needs
 
-s1-fits : (c : tie.After-read-arg2 Inv-loop μ-loop) → SFits w32 (sample-of (c .before .before) .1 .s1)
+s1-fits : (c : tie.After-correct-all-arg2 Inv-loop μ-loop) → SFits w32 (sample-of (c .before .before) .1 .s1)
 s1-fits c = search needs
 
-s3-fits : (c : tie.After-read-arg3 Inv-loop μ-loop) → SFits w32 (sample-of (c .before .before .before) .1 .s3)
+s3-fits : (c : tie.After-correct-all-arg3 Inv-loop μ-loop) → SFits w32 (sample-of (c .before .before .before) .1 .s3)
 s3-fits c = search needs
 
 small : (c : tie.At-loop Inv-loop μ-loop) → Small (c .loop .t)
 small c = let o = c .loop .inv .1 in rw (o .tally) (small-of (o .sums) (spare-room (o .sums) _ (o .spare)))
 
-read-requires : tie.Need-read-requires Inv-loop μ-loop
-read-requires c κs = small (c .before .before .before .before) .clips
+correct-all-requires : tie.Need-correct-all-requires Inv-loop μ-loop
+correct-all-requires c κs = small (c .before .before .before .before) .clips
 
--- what was read is the sample of this turn
-read-is : (c : tie.After-read Inv-loop μ-loop) →
+-- what is corrected is the sample of this turn
+three-is : (c : tie.After-correct-all Inv-loop μ-loop) →
     let here = c .before .before .before .before in
-    c .read .result ≡ readingOf (tallyOf (here .before .loop .inv .1 .sums) .clips) (start-of here .args .p) (sample-of here)
-read-is c =
+    c .correct-all .result ≡ threeOf (tallyOf (here .before .loop .inv .1 .sums) .clips) (start-of here .args .p) (sample-of here)
+three-is c =
     let third = c .before in
     let here = third .before .before .before in
-    c .read .ensures
-    ∙ read-same (start-of here .args .p) (ap (λ (t : Tally). t .clips) (here .before .loop .inv .1 .tally)) (toZ-ofZ (v-fits (third .before .before))) (toZ-ofZ (s1-fits (third .before))) (toZ-ofZ (s3-fits third))
+    c .correct-all .ensures
+    ∙ three-same (start-of here .args .p) (ap (λ (t : Tally). t .clips) (here .before .loop .inv .1 .tally)) (toZ-ofZ (v-fits (third .before .before))) (toZ-ofZ (s1-fits (third .before))) (toZ-ofZ (s3-fits third))
 
-read-in : (c : tie.After-read Inv-loop μ-loop) → Within (c .read .result)
-read-in c = rw (read-is c) (reading-within _ _ _)
+three-in : (c : tie.After-correct-all Inv-loop μ-loop) → Within (c .correct-all .result)
+three-in c = rw (three-is c) (three-within _ _ _)
 
 take-requires : tie.Need-take-requires Inv-loop μ-loop
 take-requires c κs =
@@ -184,7 +184,7 @@ take-requires c κs =
     let old = both-in (start-of here .args .p) (previous (o .sums) (sample-of here .1)) in (
       small top,
       start-of here .pre .0 .0,
-      read-in c,
+      three-in c,
       rw (o .before1) (old .0),
       rw (o .before3) (old .1),
     )
@@ -204,14 +204,14 @@ take-is c =
     let here = x .before .before .before .before in
     let o = here .before .loop .inv .1 in
     c .take .ensures
-    ∙ take-same (start-of here .args .p) (o .tally) (read-is x) (o .before1) (o .before3)
+    ∙ take-same (start-of here .args .p) (o .tally) (three-is x) (o .before1) (o .before3)
     ∙ take-next (start-of here .args .p) (o .sums) (sample-of here)
 
 loop-again : tie.Need-loop-again Inv-loop μ-loop
 loop-again c =
     let taken = c .before .before in
-    let read = taken .before in
-    let inside = read .before .before .before .before in
+    let three = taken .before in
+    let inside = three .before .before .before .before in
     let top = inside .before in
     let start = start-of inside in
     let p = start .args .p in
@@ -225,16 +225,16 @@ loop-again c =
     let here = turn inside in
     let less : suc (length v - (k + 1)) ≡ length v - k = omega (arith, here) in
     let back : k + 1 - 1 ≡ k = omega arith in
-    let same = read-inputs (tallyOf s .clips) p x in
+    let same = three-inputs (tallyOf s .clips) p x in
     let was = ap (bothOf p) (sym (previous-next p s x (inputs s1 s3 (k + 1)))) in
-    let w = read-in read in (
+    let w = three-in three in (
       omega (arith, here),
       record {
         sums = probed p s x;
         spare = spare-next p s x (length v - (k + 1)) (spare-at s (length v - k) (suc (length v - (k + 1))) (sym less) (o .spare));
         goes-on = sym (probe-more p s v s1 s3 k (start .pre .1 .0 .0) (start .pre .1 .0 .1) (here .0)) ∙ o .goes-on;
-        before1 = toZ-ofZ (wide (w .s1)) ∙ ap (λ (r : Reading). r .s1) (read-is read) ∙ same .0 ∙ ap (λ (b : Inputs). b .s1) was;
-        before3 = toZ-ofZ (wide (w .s3)) ∙ ap (λ (r : Reading). r .s3) (read-is read) ∙ same .1 ∙ ap (λ (b : Inputs). b .s3) was;
+        before1 = toZ-ofZ (wide (w .s1)) ∙ ap (λ (r : Three). r .s1) (three-is three) ∙ same .0 ∙ ap (λ (b : Inputs). b .s1) was;
+        before3 = toZ-ofZ (wide (w .s3)) ∙ ap (λ (r : Three). r .s3) (three-is three) ∙ same .1 ∙ ap (λ (b : Inputs). b .s3) was;
         tally = take-is taken;
         last = λ h. (seen-next p s x .0, seen-next p s x .1 ∙ ap (inputs s1 s3) (sym back));
       },
@@ -293,13 +293,13 @@ run-with-spec =
     cast-old3
     tally-of-requires
     loop-holds
-    mul-read
-    shared-slice-copy-out-read
-    mul-read-2
-    shared-slice-copy-out-read-2
-    mul-read-3
-    shared-slice-copy-out-read-3
-    read-requires
+    mul-correct-all
+    shared-slice-copy-out-correct-all
+    mul-correct-all-2
+    shared-slice-copy-out-correct-all-2
+    mul-correct-all-3
+    shared-slice-copy-out-correct-all-3
+    correct-all-requires
     take-requires
     add-k
     loop-less

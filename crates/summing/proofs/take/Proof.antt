@@ -1,6 +1,6 @@
 -- `take` meets its contract.
 use Rattle.summing.specs.declared.Probe.{Probe}
-use Rattle.summing.specs.declared.Reading.{Reading}
+use Rattle.summing.specs.declared.Three.{Three}
 use Rattle.summing.specs.Inside.{mixedBoth, takenInto}
 use Rattle.sample.specs.declared.Inputs.{Inputs}
 use Rattle.source.proofs.Blends.{blended-in}
@@ -25,7 +25,7 @@ blend-requires-2 : tie.Need-blend-requires-2
 blend-requires-2 c κs = search needs
 
 -- the inputs as they are mixed
-abbrev mixed-of : Probe → Reading → ℤ → ℤ → Inputs
+abbrev mixed-of : Probe → Three → ℤ → ℤ → Inputs
 mixed-of p x old1 old3 = mixedBoth p (record { s1 = x .s1; s3 = x .s3 }) (record { s1 = old1; s3 = old3 })
 
 -- both sources' currents

@@ -1,4 +1,4 @@
--- `read` meets its contract.
+-- `correct_all` meets its contract.
 use Prim.Native.Nat.{ℕ}
 use native.Mathlib.Omega.{arith}
 use mathlib.Core.Path.{_≡_, sym, ap, _∙_}
@@ -12,10 +12,10 @@ use Rattle.range.specs.Range.{in24, outside24}
 use Rattle.range.proofs.Ranges.{in24-in, clipped-own, in-fits}
 use Rattle.sample.specs.Sample.{scaled}
 use Rattle.sample.proofs.Tests.{both-of}
-use Rattle.summing.specs.Inside.{oneMore, clippedEach, readingOf}
+use Rattle.summing.specs.Inside.{oneMore, clippedEach, threeOf}
 use borrow.Author.Needs.{needs}
-use Rattle.summing.proofs.read.Statement.{statement}
-use Rattle.summing.proofs.read.Tie as tie
+use Rattle.summing.proofs.correct_all.Statement.{statement}
+use Rattle.summing.proofs.correct_all.Tie as tie
 
 scale-requires : tie.Need-scale-requires
 scale-requires c κs = search needs
@@ -93,7 +93,7 @@ cast-t14 : tie.Need-cast-t14
 cast-t14 c = rw (x-is (c .before .before .before .before .before .before .before .before .before .before)) (held-fits c)
 
 returns : tie.Need-returns
-unfolding readingOf
+unfolding threeOf
 returns c =
     let z = c .before .before .before .before in
     let y = z .before .before .before in
@@ -104,15 +104,15 @@ clip-each-requires : tie.Need-clip-each-requires
 clip-each-requires c κs = search needs
 
 returns-2 : tie.Need-returns-2
-unfolding readingOf
+unfolding threeOf
 returns-2 c =
     let z = c .before .before .before .before .before in
     let y = z .before .before .before in
     let x = y .before .before .before in
     c .clip-each .ensures ∙ rw (x-is x, y-is y, z-is z)
 
-pub read-spec : {M : Type 1} → statement M
-read-spec =
+pub correct-all-spec : {M : Type 1} → statement M
+correct-all-spec =
     tie.close
     (tie.spec
     scale-requires
