@@ -1,4 +1,6 @@
 // The module: two ports that stage cards and hold readings, before the meter.
+#![tactic(auto)]
+
 ghost use Rattle.std.specs.Prelude.{◌≡◌, length};
 ghost use Rattle.aberzhan.specs.Module.{refusal, open_of, write_of, commit_of, drop_of, hold_of, read_of, block_of, reset_of, fresh_module, start_of};
 ghost use Rattle.aberzhan.specs.Polling.{poll_of, poll_buffer};
@@ -17,7 +19,7 @@ use serial::Serial;
 use steps::Answer;
 
 // What each step takes and hands back. volts: the last voltages that the watch has seen. Port k has the desk and the hold with its number.
-#[derive(Drop)]
+#[derive(Clone, Copy)]
 pub struct Module {
     meter: Meter,
     watch: Watch,
@@ -29,7 +31,7 @@ pub struct Module {
 }
 
 // A step's answer, and the module after it: as it came, if the step is refused.
-#[derive(Drop)]
+#[derive(Clone, Copy)]
 pub struct Stepped {
     pub answer: Answer,
     pub after: Module,
@@ -37,7 +39,7 @@ pub struct Stepped {
 
 // What a hold returns: beside the answer the interval's number, its serial and how many of its samples were clipped, and the alarms as they are now;
 // 0 and none if it is refused.
-#[derive(Drop)]
+#[derive(Clone, Copy)]
 pub struct Holding {
     pub answer: Answer,
     pub number: u32,
@@ -48,14 +50,14 @@ pub struct Holding {
 }
 
 // What a read returns. The module is as it came.
-#[derive(Drop)]
+#[derive(Clone, Copy)]
 pub struct Looked {
     pub answer: Reading,
     pub after: Module,
 }
 
 // What a poll returns: how many bytes the reply has, 0 if it is refused.
-#[derive(Drop)]
+#[derive(Clone, Copy)]
 pub struct Polled {
     pub answer: Answer,
     pub length: usize,
@@ -63,7 +65,7 @@ pub struct Polled {
 }
 
 // The serials of the card in force and of the card that waits; none where there is no such card.
-#[derive(Drop)]
+#[derive(Clone, Copy)]
 pub struct Cards {
     pub force: Serial,
     pub waiting: Serial,

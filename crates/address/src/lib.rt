@@ -1,12 +1,14 @@
 // The register table, and its two kinds of address.
+#![tactic(auto)]
+
 ghost use Rattle.std.specs.Prelude.{◌≡◌};
 ghost use Rattle.address.specs.Addresses.{byte_of, place_of, register_of, word_addr, byte_addr};
 ghost use Rattle.address.specs.Slots.{slot_ok, every_slot};
 
-#[derive(Drop)]
+#[derive(Clone, Copy)]
 pub struct WordAddr(pub u32);
 
-#[derive(Drop)]
+#[derive(Clone, Copy)]
 pub struct ByteAddr(pub u64);
 
 // How many registers the table has.

@@ -1,4 +1,6 @@
 // Sag and surge: what a start asks for, the two alarms with what they are worked from, and a reset.
+#![tactic(auto)]
+
 ghost use Rattle.std.specs.Prelude.{◌≡◌, true};
 ghost use Rattle.alarm.specs.Masks.{only_alarms, named_by};
 ghost use Rattle.alarm.specs.Alarms.{reset_of};
@@ -7,14 +9,14 @@ ghost use Rattle.alarm.specs.Starting.{numbers_ok, limits_of, fresh_watch, lowes
 use steps::Answer;
 
 // A set of the two alarms: those that are set, those that stay set, those that a reset names.
-#[derive(Drop)]
+#[derive(Clone, Copy)]
 pub struct Alarms {
     pub sag: bool,
     pub surge: bool,
 }
 
 // What a start asks for: W, the samples in half a cycle; VSAG and VSURGE, 0 is off; the mask of the alarms that stay set.
-#[derive(Drop)]
+#[derive(Clone, Copy)]
 pub struct Asked {
     pub w: i64,
     pub vsag: i64,
@@ -23,7 +25,7 @@ pub struct Asked {
 }
 
 // The same, in range.
-#[derive(Drop)]
+#[derive(Clone, Copy)]
 pub struct Limits {
     pub w: u32,
     pub vsag: u32,
@@ -33,7 +35,7 @@ pub struct Limits {
 
 // The last W corrected voltages stand apart, in an array of 512. at: the place of the oldest, where the next one goes; seen: how many came, at
 // most W; sum: of their squares.
-#[derive(Drop)]
+#[derive(Clone, Copy)]
 pub struct Watch {
     pub limits: Limits,
     pub at: u32,
@@ -43,14 +45,14 @@ pub struct Watch {
 }
 
 // What a start makes of what is asked; at its lowest where that is out of range.
-#[derive(Drop)]
+#[derive(Clone, Copy)]
 pub struct Started {
     pub ok: bool,
     pub watch: Watch,
 }
 
 // What a reset answers, and the watch after it: as it came, if refused.
-#[derive(Drop)]
+#[derive(Clone, Copy)]
 pub struct Reset {
     pub answer: Answer,
     pub after: Watch,

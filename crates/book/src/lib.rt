@@ -1,4 +1,6 @@
 // The card book on lent bytes: its two sections, and the check.
+#![tactic(auto)]
+
 ghost use Rattle.std.specs.Prelude.{◌≡◌, ◌≤◌};
 ghost use Rattle.book.specs.Book.{count_at, cards, withdrawn, sized, well_formed};
 

@@ -1,5 +1,5 @@
 -- What the generated contracts of the module's methods allow, call by call; and that it is what `returned`, for the start `start_of`, says of the call.
-use mathlib.Core.Path.{◌≡◌, refl, sym, ap, ◌∙◌}
+use mathlib.Core.Path.{◌≡◌, sym, ap, ◌∙◌}
 use Prim.Native.Nat.{ℕ}
 use mathlib.Core.List.{List}
 use lib.IntN.{ℤ}
@@ -7,7 +7,7 @@ use lib.ListN.{length}
 use contract.Lifetimes.{Lfts}
 use borrow.Fn.Kinds.{Dens}
 use Rattle.promise.specs.Determined.{Allowed}
-use Rattle.steps.specs.Calls.{Reply, Methods, Log, noted, Ran, ended, called}
+use Rattle.steps.specs.Calls.{Reply, Methods}
 use Rattle.address.specs.declared.WordAddr.{WordAddr}
 use Rattle.address.specs.declared.ByteAddr.{ByteAddr}
 use Rattle.alarm.specs.declared.Asked.{Asked}
@@ -21,7 +21,7 @@ use Rattle.calls.specs.Ports.{aberzhan}
 use Rattle.aberzhan.specs.Module.{start_of, hold_of, read_of}
 use Rattle.aberzhan.specs.Polling.{poll_of, poll_buffer}
 use Rattle.aberzhan.specs.Cards.{cards_of}
-use Rattle.calls.specs.Calls.{state_of, Call, call_open, call_write, call_commit, call_drop, call_hold, call_read, call_block, call_reset, step_of, call_of, from_step, from_hold, from_read, returned, program}
+use Rattle.calls.specs.Calls.{state_of, Call, call_open, call_write, call_commit, call_drop, call_hold, call_read, call_block, call_reset, step_of, call_of, from_step, from_hold, from_read, returned}
 use Rattle.aberzhan.proofs.Module.start.Kinds as starts-k
 use Rattle.aberzhan.proofs.Module.start.Reads as starts
 use Rattle.aberzhan.proofs.Module.open.Kinds as opens-k
@@ -129,10 +129,3 @@ allowed_is (call_hold p) m o (κs, a, r, h, e, f, q) = q ∙ ap from_hold (rw (e
 allowed_is (call_read p b) m o (κs, a, r, h, e, f, g, q) = q ∙ ap from_read (rw (e, f, g) at h.allowed)
 allowed_is (call_block v s1 s3) m o (κs, a, r, h, e, f, g, i, q) = q ∙ ap from_step (rw (e, f, g, i) at h.allowed)
 allowed_is (call_reset mask) m o (κs, a, r, h, e, f, q) = q ∙ ap from_step (rw (e, f) at h.allowed)
-
--- so whatever comes of calls, one after the other, is what `program` says
-pub ran_is : {ks : List Call} {m : Module} {l : Log aberzhan Module} → Ran aberzhan methods ks m l → l ≡ program ks m
-ran_is ended = refl
-ran_is (called {k} {ks} {m} {o} {l} a r) =
-    ap (noted aberzhan Module (step_of k) o.0) (ran_is r)
-    ∙ ap (λ (o : Reply aberzhan × Module). noted aberzhan Module (step_of k) o.0 (program ks o.1)) (allowed_is k m o a)

@@ -1,7 +1,7 @@
 -- A poll counts as its hold and its reads.
 use Prim.Native.Nat.{ℕ, ◌+◌, ◌*◌, ◌≤◌}
 use mathlib.Core.Path.{◌≡◌, refl, sym, ap, subst, ◌∙◌}
-use mathlib.Core.Bool.{Bool, true, false, cond, ◌&&◌, and_false, true≢false}
+use mathlib.Core.Bool.{Bool, true, false, cond, ◌&&◌, and-false, true≢false}
 use mathlib.Core.List.{List, [], ◌∷◌, map}
 use native.Mathlib.Nat.{zero-add}
 use native.Mathlib.Omega.{arith}
@@ -206,7 +206,7 @@ module _ (m : Module) (packet buffer : List ℕ) where
 
   counts_by : (s f : Bool) → sends reply ≡ s → Counted (cond (s && f) regs []) reply f
   counts_by true true e = all_counted regs reply (sends_by given (asked_by packet).ending e)
-  counts_by s false e = rw (and_false s) (not_counted reply false refl (omega arith))
+  counts_by s false e = rw (and-false s) (not_counted reply false refl (omega arith))
   counts_by false true e = not_counted reply true (ap (λ (b : Bool). cond {A = Module} b (with_held port1 (held_now m) m) m) e) (short_reply reply e)
 
   abbrev fits : Bool

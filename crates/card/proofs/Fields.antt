@@ -1,7 +1,7 @@
 -- Laws of the fields' ranges.
 use Prim.Native.Nat.{ℕ, ◌+◌, ◌-◌, ◌<◌, ◌≤◌}
 use mathlib.Core.Path.{◌≡◌, refl, sym, subst}
-use mathlib.Core.Bool.{Bool, true, false, cond, ◌&&◌, true≢false, and_false}
+use mathlib.Core.Bool.{Bool, true, false, cond, ◌&&◌, true≢false, and-false}
 use native.Mathlib.Omega.{arith}
 use lib.IntN.{ℤ, pos, negsuc, nat_abs, ◌-ℤ◌}
 use lib.ListN.{get_or}
@@ -36,7 +36,7 @@ low_field f v h = simp (lt_le_z f (pos 1) h)
 
 pub high_field : (f v : ℤ) → lt_z (pos 8) f ≡ true → field_in_range f v ≡ false
 unfolding field_in_range is_field
-high_field f v h = simp (lt_le_z (pos 8) f h, and_false)
+high_field f v h = simp (lt_le_z (pos 8) f h, and-false)
 
 -- a field's number less one is its place
 pub record Placed (f : ℤ) : Type 0 where

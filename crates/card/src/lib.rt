@@ -1,4 +1,6 @@
 // What a card is: document 01, "A probe's card".
+#![tactic(auto)]
+
 pub mod names;
 
 ghost use Rattle.std.specs.Prelude.{◌≡◌, ◌≤◌, ◌<◌};
@@ -7,7 +9,7 @@ ghost use Rattle.card.specs.Cards.{three_at, value_of, field_at, digits_at, fiel
 
 use serial::Serial;
 
-#[derive(Drop)]
+#[derive(Clone, Copy)]
 pub struct Card {
     pub serial: Serial,
     pub fields: [i32; 8],

@@ -1,4 +1,6 @@
 // A card as its 37 bytes.
+#![tactic(auto)]
+
 ghost use Rattle.std.specs.Prelude.{◌≡◌, ◌≤◌};
 ghost use Rattle.card.specs.Cards.{bits24, three_bytes, card_bytes};
 

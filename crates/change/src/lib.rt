@@ -1,4 +1,6 @@
 // Changing the book in a lent buffer: adding a card, and withdrawing a serial.
+#![tactic(auto)]
+
 ghost use Rattle.std.specs.Prelude.{◌≡◌, ◌+◌, ◌-◌, ◌≤◌, length, take, eqb};
 ghost use Rattle.serial.specs.Places.{part, put};
 ghost use Rattle.change.specs.Answers.{changed_answer};
@@ -7,7 +9,7 @@ ghost use Rattle.change.specs.Change.{book_in, count_bytes, with_entry, Takes, r
 use section::Section;
 
 // What adding or withdrawing comes to.
-#[derive(Drop)]
+#[derive(Clone, Copy)]
 pub enum Changed {
     Length(usize),
     NotSerial,

@@ -1,9 +1,11 @@
 // A whole number as decimal text.
+#![tactic(auto)]
+
 ghost use Rattle.std.specs.Prelude.{◌≡◌, ◌<◌};
 ghost use Rattle.decimal.specs.Decimals.{decimal, at_end, number_text};
 
 // A text at the end of twenty bytes, from a place on; before it are zero bytes.
-#[derive(Drop)]
+#[derive(Clone, Copy)]
 pub struct Text {
     pub bytes: [u8; 20],
     pub from: usize,

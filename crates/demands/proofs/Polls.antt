@@ -35,7 +35,8 @@ use Rattle.aberzhan.specs.Polling.{held_now, poll_reply, after_reply, poll_of, p
 use Rattle.calls.specs.Calls.{read_reply}
 use Rattle.calls.specs.Turns.{read_call}
 use Rattle.calls.specs.Counting.{values_read}
-use Rattle.calls.proofs.Contracts.{polled_is, held_by, allowed_is, ran_is}
+use Rattle.calls.proofs.Contracts.{polled_is, held_by, allowed_is}
+use Rattle.calls.proofs.Ran.{ran_is}
 use Rattle.calls.proofs.Counting.{poll_counts}
 use Rattle.demands.specs.Polls.{PollsTell, EveryRegister}
 

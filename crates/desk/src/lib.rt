@@ -1,4 +1,6 @@
 // A port's desk: where a card is made.
+#![tactic(auto)]
+
 ghost use Rattle.std.specs.Prelude.{◌≡◌, ◌<◌};
 ghost use Rattle.steps.specs.Answers.{refused};
 ghost use Rattle.desk.specs.Desks.{shut_desk, empty_card, with_field, opening, writing, dropping, all_written, card_on, finished};
@@ -9,7 +11,7 @@ use serial::Serial;
 use steps::Answer;
 
 // A card in the making: its serial, and for each of the eight fields the value and whether it was written. A shut desk is blank.
-#[derive(Drop)]
+#[derive(Clone, Copy)]
 pub struct Desk {
     pub opened: bool,
     pub serial: Serial,
@@ -18,14 +20,14 @@ pub struct Desk {
 }
 
 // What was done at a desk, and the desk after it: as it came, if refused.
-#[derive(Drop)]
+#[derive(Clone, Copy)]
 pub struct Desked {
     pub answer: Answer,
     pub after: Desk,
 }
 
 // A commit at a desk: the card, and the desk after it, which is shut. If it is refused the card is blank, and the desk as it came.
-#[derive(Drop)]
+#[derive(Clone, Copy)]
 pub struct Finished {
     pub answer: Answer,
     pub card: Card,

@@ -1,4 +1,3 @@
 -- Laws of energy.
 pub mod Buckets
-pub mod Lent
 pub mod Decided

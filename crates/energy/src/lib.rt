@@ -1,8 +1,10 @@
 // Energy: one direction's count and remainder, advanced here and nowhere else.
+#![tactic(auto)]
+
 ghost use Rattle.std.specs.Prelude.{◌≡◌};
 ghost use Rattle.energy.specs.Energies.{advanced, amount_of};
 
-#[derive(Drop)]
+#[derive(Clone, Copy)]
 pub struct Energy {
     pub count: u32,
     pub remainder: u64,

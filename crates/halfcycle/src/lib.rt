@@ -1,4 +1,6 @@
 // The half cycle: the last W corrected voltages with the sum of their squares, and what they make of the alarms.
+#![tactic(auto)]
+
 ghost use Rattle.std.specs.Prelude.{◌≡◌, ◌&&◌, ◌+◌, ◌*◌, ◌^◌, ◌≤◌, ◌<◌, min, eqb, length};
 ghost use Rattle.std.specs.Int.Signed.{mag};
 ghost use Rattle.number.specs.Sign.{square_of};
@@ -13,14 +15,14 @@ use card::names::{VGAIN, VOFFS};
 use sample::correct;
 
 // The watch after voltages; where it is not ok, no steps have made it, and it is as it came.
-#[derive(Drop)]
+#[derive(Clone, Copy)]
 pub struct Passed {
     pub ok: bool,
     pub watch: Watch,
 }
 
 // What a voltage of one card is worked with.
-#[derive(Drop)]
+#[derive(Clone, Copy)]
 pub struct Track {
     pub voffs: i32,
     pub vgain: i32,
@@ -28,7 +30,7 @@ pub struct Track {
 }
 
 // What the loop keeps beside the voltages: the place of the oldest, the sum, and the least and the greatest that it was after a voltage.
-#[derive(Drop)]
+#[derive(Clone, Copy)]
 pub struct Sweep {
     pub at: usize,
     pub sum: u64,
@@ -91,7 +93,7 @@ fn level_of(w: u32, level: u32) -> u64
 }
 
 // What the sum is compared with; full: W were seen. Else, and where a level is off, what no sum is below or above.
-#[derive(Drop)]
+#[derive(Clone, Copy)]
 pub struct Levels {
     pub low: u64,
     pub high: u64,

@@ -1,6 +1,5 @@
 -- Laws of one interval.
 pub mod Directions
-pub mod Lends
 pub mod Wholes
 pub mod Rms
 pub mod NoLoad

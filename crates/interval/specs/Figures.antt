@@ -1,6 +1,6 @@
 -- Figures to check by, as three tables: C1 to C12 of document 01, and ours for no load and for clipped samples (document 02, A1 and A2), for IA and
 -- for IB alike. Each line has what the definitions give and, beside it, what it must be. Gain one and other fields 0 unless said.
-use Rattle.std.specs.Prelude.{ℕ, ◌-◌, true, List, [], ◌∷◌, ◌++◌, map, length, set, replicate, ℤ, pos, negsuc, slice_set}
+use Rattle.std.specs.Prelude.{ℕ, ◌-◌, true, List, [], ◌∷◌, ◌++◌, map, length, replicate, ℤ, pos, negsuc, slice_set}
 use Rattle.card.specs.declared.Card.{Card}
 use Rattle.serial.specs.Serials.{no_serial}
 use Rattle.energy.specs.declared.Energy.{Energy}

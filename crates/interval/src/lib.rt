@@ -1,4 +1,6 @@
 // The close of an interval.
+#![tactic(auto)]
+
 ghost use Rattle.std.specs.Prelude.{◌≡◌};
 ghost use Rattle.range.specs.Range.{capped};
 ghost use Rattle.energy.specs.Energies.{advanced};
@@ -13,7 +15,7 @@ use serial::Serial;
 use tracking::Ends;
 
 // n: samples per interval; b: the bucket; track: the words that the six slots track; config: what the sources are made of.
-#[derive(Drop)]
+#[derive(Clone, Copy)]
 pub struct Settings {
     pub n: u32,
     pub b: u64,
@@ -22,7 +24,7 @@ pub struct Settings {
 }
 
 // The results of one current source. figures: RMS, peak, active and apparent power, power factor, crest.
-#[derive(Drop)]
+#[derive(Clone, Copy)]
 pub struct Source {
     pub figures: [i32; 6],
     pub plus: Energy,
@@ -30,7 +32,7 @@ pub struct Source {
 }
 
 // vrms is the board's; a and b are the sources IA and IB.
-#[derive(Drop)]
+#[derive(Clone, Copy)]
 pub struct Registers {
     pub vrms: i32,
     pub a: Source,
@@ -39,7 +41,7 @@ pub struct Registers {
 }
 
 // An interval that has closed; serial is that of the card it was worked with, clips counts of its own samples.
-#[derive(Drop)]
+#[derive(Clone, Copy)]
 pub struct Closed {
     pub number: u32,
     pub serial: Serial,

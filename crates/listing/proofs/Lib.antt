@@ -2,6 +2,5 @@
 pub mod Lines
 pub mod Walked
 pub mod Walking
-pub mod EntryTurns
 pub mod Examples
 pub mod Decided

@@ -1,4 +1,6 @@
 // The listing of a card book, made whole in a lent buffer: document 01, "The listing".
+#![tactic(auto)]
+
 ghost use Rattle.std.specs.Prelude.{◌≡◌, ◌+◌, ◌≤◌, length};
 ghost use Rattle.serial.specs.Places.{part, put};
 ghost use Rattle.decimal.specs.Decimals.{signed_decimal};

@@ -1,10 +1,12 @@
 // Lookup: the card of a serial in a book.
+#![tactic(auto)]
+
 ghost use Rattle.std.specs.Prelude.{◌≡◌, ◌+◌};
 ghost use Rattle.lookup.specs.Answers.{found_answer};
 ghost use Rattle.lookup.specs.Lookup.{seek_of, lookup_of, card_part};
 
 // What lookup finds.
-#[derive(Drop)]
+#[derive(Clone, Copy)]
 pub enum Found {
     At(usize),
     NotSerial,

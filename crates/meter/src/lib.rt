@@ -1,4 +1,6 @@
 // Samples into intervals: the start, the card that comes into force, and a block.
+#![tactic(auto)]
+
 ghost use Rattle.std.specs.Prelude.{◌≡◌, true, ◌&&◌, ◌+◌, ◌-◌, ◌≤◌, ◌<◌, min, length};
 ghost use Rattle.sample.specs.Sample.{every24};
 ghost use Rattle.sample.specs.Sums.{samples_in, same_length};
@@ -17,7 +19,7 @@ use serial::Serial;
 use steps::Answer;
 
 // What outlives an interval, with the sums of the one that runs. any: whether any interval has; last: the one that closed last.
-#[derive(Drop)]
+#[derive(Clone, Copy)]
 pub struct Work {
     pub settings: Settings,
     pub sums: Sums,
@@ -26,7 +28,7 @@ pub struct Work {
 }
 
 // waiting counts only while `waits`, force only once `forced`. taken: samples of the running interval.
-#[derive(Drop)]
+#[derive(Clone, Copy)]
 pub struct Meter {
     pub waits: bool,
     pub waiting: Card,
@@ -37,14 +39,14 @@ pub struct Meter {
 }
 
 // What a start makes of N, B, the six words to track and the configuration; at its lowest where one of them is out of range.
-#[derive(Drop)]
+#[derive(Clone, Copy)]
 pub struct Started {
     pub ok: bool,
     pub meter: Meter,
 }
 
 // What a block answers, and meter and watch after it: as they came, if refused.
-#[derive(Drop)]
+#[derive(Clone, Copy)]
 pub struct Taken {
     pub answer: Answer,
     pub after: Meter,

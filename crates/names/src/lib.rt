@@ -1,11 +1,13 @@
 // The names of documents 01 and 02, and which number each stands for: a card's field its number, a register its word address.
+#![tactic(auto)]
+
 ghost use Rattle.std.specs.Prelude.{◌≡◌, true, ◌+◌, ◌*◌, ◌≤◌, length};
 ghost use Rattle.serial.specs.Texts.{same_text};
 ghost use Rattle.names.specs.Names.{named_in, field_named, register_named};
 ghost use Rattle.names.specs.Inside.{letters_at, row_at, rows_of, rows_ok};
 
 // What a name stands for.
-#[derive(Drop)]
+#[derive(Clone, Copy)]
 pub enum Named {
     Is(u32),
     Not,

@@ -1,4 +1,6 @@
 // The whole-number rules of document 01: sign and size, both roundings, squares and products.
+#![tactic(auto)]
+
 ghost use Rattle.std.specs.Prelude.{◌≡◌, ◌^◌, ◌≤◌, nat_abs, ◌*ℤ◌};
 ghost use Rattle.number.specs.Sign.{with_sign, lessened, square_of};
 ghost use Rattle.number.specs.Rounding.{floor_div, toward_zero};

@@ -1,4 +1,6 @@
 // A packet of the serial line: whether it is whole, and its commands one by one.
+#![tactic(auto)]
+
 ghost use Rattle.std.specs.Prelude.{◌≡◌, ◌≤◌, length};
 ghost use Rattle.packet.specs.Packets.{checksum, no_packet, sum_right, judged};
 ghost use Rattle.packet.specs.Commands.{parameters, selects, target_of, selecting, not_used, pointed, bytes_read, reading, while_selected, command_of};
@@ -6,7 +8,7 @@ ghost use Rattle.packet.specs.Commands.{parameters, selects, target_of, selectin
 use serial::byte_at;
 
 // How a packet, or the row of its commands, ends: it is whole; it fails, with the code that is the reply; or it has no reply.
-#[derive(Drop)]
+#[derive(Clone, Copy)]
 pub enum Ending {
     Whole,
     Fails(u8),
@@ -14,7 +16,7 @@ pub enum Ending {
 }
 
 // What a command finds: whether this device is selected, and the address pointer.
-#[derive(Drop)]
+#[derive(Clone, Copy)]
 pub struct Device {
     pub selected: bool,
     pub pointer: u16,
@@ -22,7 +24,7 @@ pub struct Device {
 
 // What a command comes to: what the next one finds; so many registers read from the pointer on, and what the next one finds; or that it stops the
 // packet.
-#[derive(Drop)]
+#[derive(Clone, Copy)]
 pub enum Command {
     Goes(Device),
     Reads(u8, Device),

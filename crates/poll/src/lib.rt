@@ -1,4 +1,6 @@
 // A packet of the serial line answered from a hold: its registers are gathered, and the reply put into a lent buffer.
+#![tactic(auto)]
+
 ghost use Rattle.std.specs.Prelude.{◌≡◌, ◌+◌, ◌*◌, ◌≤◌, length};
 ghost use Rattle.serial.specs.Places.{put, put_within};
 ghost use Rattle.card.specs.Cards.{fields_bytes};
@@ -12,7 +14,7 @@ use packet::{Command, Device, Ending};
 use port::{Held, Reading};
 
 // Whether the reply fits, how long it is, and whether it sends registers; 0 and no where it does not fit.
-#[derive(Drop)]
+#[derive(Clone, Copy)]
 pub struct Replied {
     pub fits: bool,
     pub length: usize,
@@ -20,21 +22,21 @@ pub struct Replied {
 }
 
 // The registers read so far. A reply has room for 84 of them; 85 stands for any more.
-#[derive(Drop)]
+#[derive(Clone, Copy)]
 pub struct Gathered {
     pub count: usize,
     pub values: [i64; 84],
 }
 
 // The same behind a read; ok: none of its registers was refused.
-#[derive(Drop)]
+#[derive(Clone, Copy)]
 pub struct Taken {
     pub ok: bool,
     pub gathered: Gathered,
 }
 
 // Behind a command; over: it stopped the packet.
-#[derive(Drop)]
+#[derive(Clone, Copy)]
 pub struct Walked {
     pub over: bool,
     pub ending: Ending,
@@ -43,7 +45,7 @@ pub struct Walked {
 }
 
 // Behind the last command, or the one that stopped the packet.
-#[derive(Drop)]
+#[derive(Clone, Copy)]
 pub struct Gathering {
     pub ending: Ending,
     pub gathered: Gathered,

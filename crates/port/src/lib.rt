@@ -1,4 +1,6 @@
 // What a hold leaves on its port, and what a read answers from it.
+#![tactic(auto)]
+
 ghost use Rattle.std.specs.Prelude.{◌≡◌, ◌<◌, pos, get_or};
 ghost use Rattle.address.specs.Addresses.{rows};
 ghost use Rattle.port.specs.Holds.{nothing_held, copied};
@@ -11,7 +13,7 @@ use steps::Answer;
 
 // An interval as it was closed last when the port held, with the words that its slots track. any: whether anything is held; where not, all is
 // blank.
-#[derive(Drop)]
+#[derive(Clone, Copy)]
 pub struct Held {
     pub any: bool,
     pub closed: Closed,
@@ -19,14 +21,14 @@ pub struct Held {
 }
 
 // What a hold copies; nothing, if it is refused.
-#[derive(Drop)]
+#[derive(Clone, Copy)]
 pub struct Copied {
     pub answer: Answer,
     pub held: Held,
 }
 
 // What a read answers: the value of a register, or the number that says no.
-#[derive(Drop)]
+#[derive(Clone, Copy)]
 pub enum Reading {
     Value(i64),
     Refused(u8),

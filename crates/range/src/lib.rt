@@ -1,4 +1,6 @@
 // The 24-bit range, and clipping.
+#![tactic(auto)]
+
 ghost use Rattle.std.specs.Prelude.{◌≡◌};
 ghost use Rattle.range.specs.Range.{in24, held_within, clipped, capped};
 

@@ -1,9 +1,11 @@
 // The bench reader: it walks a book card by card, and then its withdrawn serials, holding its place in the lent bytes.
+#![tactic(auto)]
+
 ghost use Rattle.std.specs.Prelude.{◌≡◌, ◌≤◌};
 ghost use Rattle.reader.specs.Walk.{past_count, entry_step, no_step, step_at};
 
 // What can stand at a place of a book.
-#[derive(Drop)]
+#[derive(Clone, Copy)]
 pub enum Entry {
     Card,
     Withdrawn,
@@ -11,7 +13,7 @@ pub enum Entry {
 }
 
 // What stands there, the place of its first byte, and the place after it.
-#[derive(Drop)]
+#[derive(Clone, Copy)]
 pub struct Step {
     pub entry: Entry,
     pub at: usize,
@@ -19,7 +21,7 @@ pub struct Step {
 }
 
 // The book, and what stands at the reader's place in it.
-#[derive(Drop)]
+#[derive(Clone, Copy)]
 pub struct Reader<'a> {
     pub book: &'a [u8],
     pub here: Step,

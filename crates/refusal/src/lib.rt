@@ -1,4 +1,6 @@
 // The refusals' words: document 01, "Numbers that say no", in short English.
+#![tactic(auto)]
+
 ghost use Rattle.std.specs.Prelude.{◌≡◌, ◌≤◌, ◌<◌, length};
 ghost use Rattle.serial.specs.Places.{put_within};
 ghost use Rattle.refusal.specs.Words.{words_of, written_of};

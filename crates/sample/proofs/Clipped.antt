@@ -1,5 +1,5 @@
 -- A sample was clipped just if its product lies beyond the range times 2^21.
-use Prim.Native.Nat.{◌≤◌, ◌/◌}
+use Prim.Native.Nat.{◌/◌}
 use mathlib.Core.Path.{◌≡◌}
 use mathlib.Core.Bool.{true, false}
 use mathlib.Core.Logic.{◌⊎◌, inl, inr}

@@ -1,4 +1,6 @@
 // Samples: what a card makes of a raw one, and what is kept of the running interval's.
+#![tactic(auto)]
+
 ghost use Rattle.std.specs.Prelude.{◌≡◌, ◌≤◌};
 ghost use Rattle.sample.specs.Sample.{scaled, correction, every24};
 ghost use Rattle.sample.specs.Sums.{emptied, no_flow, no_clips, no_sums, flow_within, clips_within, of_at_most, phase_in_range};
@@ -7,7 +9,7 @@ use card::Card;
 use card::names::PHASE;
 
 // A corrected sample, and whether its value before clipping lay outside the 24-bit range.
-#[derive(Drop)]
+#[derive(Clone, Copy)]
 pub struct Corrected {
     pub value: i32,
     pub clipped: bool,
@@ -54,14 +56,14 @@ pub fn phase_in_range(c: Card) -> bool
 }
 
 // A value for each current input.
-#[derive(Drop)]
+#[derive(Clone, Copy)]
 pub struct Inputs {
     pub s1: i32,
     pub s3: i32,
 }
 
 // Of one current source: the sum of its squares and of its products with the voltage, and its largest size.
-#[derive(Drop)]
+#[derive(Clone, Copy)]
 pub struct Flow {
     pub ii: u64,
     pub vi: i64,
@@ -69,7 +71,7 @@ pub struct Flow {
 }
 
 // How many of an interval's own voltages and inputs were clipped.
-#[derive(Drop)]
+#[derive(Clone, Copy)]
 pub struct Clips {
     pub v: u32,
     pub s1: u32,
@@ -77,7 +79,7 @@ pub struct Clips {
 }
 
 // vv is the sum of the voltage squares; a and b are of the sources IA and IB; raw has the last raw inputs, where any were seen.
-#[derive(Drop)]
+#[derive(Clone, Copy)]
 pub struct Sums {
     pub vv: u64,
     pub a: Flow,

@@ -1,17 +1,19 @@
 // A section of a book: entries of one size, one after another, each of which begins with the 13 bytes of a serial. The check, and the search for a serial.
+#![tactic(auto)]
+
 ghost use Rattle.std.specs.Prelude.{◌≡◌, ◌+◌, ◌*◌, ◌-◌, ◌≤◌, ◌<◌, length};
 ghost use Rattle.serial.specs.Places.{part};
 ghost use Rattle.section.specs.Sections.{Lies, lies, entry_ok, entries_ok, same, distinct, section_ok, first_of, find_in, has, place_in};
 
 // What the entries of a section are: cards, or serials alone.
-#[derive(Drop)]
+#[derive(Clone, Copy)]
 pub enum Kind {
     Cards,
     Serials,
 }
 
 // A section: what its entries are, where its first entry begins, how many bytes an entry has, and how many entries there are.
-#[derive(Drop)]
+#[derive(Clone, Copy)]
 pub struct Section {
     pub kind: Kind,
     pub base: usize,

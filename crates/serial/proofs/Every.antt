@@ -1,7 +1,7 @@
 -- Laws of tests over every number below a bound, and of the first that passes. Each loop that tests or searches cites these.
 use Prim.Native.Nat.{ℕ, zero, suc, ◌+◌, ◌≤◌, ◌<◌}
 use mathlib.Core.Path.{◌≡◌, refl, sym, ap}
-use mathlib.Core.Bool.{Bool, true, false, cond, not, ◌&&◌, and-true, and_false, false≢true}
+use mathlib.Core.Bool.{Bool, true, false, cond, not, ◌&&◌, and-true, and-false, false≢true}
 use mathlib.Core.Logic.{⊎_elim}
 use native.Mathlib.Nat.{le_of_suc-le-suc, not-suc-le-zero, eq-or-lt_of_le}
 use native.Mathlib.Numerals.{add-one}
@@ -55,7 +55,7 @@ pub every_fails : (p : ℕ → Bool) (n k : ℕ) → k < n → p k ≡ false →
 unfolding every
 every_fails p zero k l e = absurd (not-suc-le-zero l)
 every_fails p (suc n) k l e =
-    ⊎_elim (λ q. rw (← q, e) (and_false (every p k))) (λ lt. rw (every_fails p n k lt e) refl) (eq-or-lt_of_le (le_of_suc-le-suc l))
+    ⊎_elim (λ q. rw (← q, e) (and-false (every p k))) (λ lt. rw (every_fails p n k lt e) refl) (eq-or-lt_of_le (le_of_suc-le-suc l))
 
 pub every_from : (p : ℕ → Bool) (n : ℕ) → ((k : ℕ) → k < n → p k ≡ true) → every p n ≡ true
 unfolding every

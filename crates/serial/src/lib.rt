@@ -1,11 +1,13 @@
 // What a serial is: document 01, "A probe's card". Bytes at a place, and the 13 bytes of a serial.
+#![tactic(auto)]
+
 ghost use Rattle.std.specs.Prelude.{◌≡◌, ◌+◌, ◌≤◌, length, get_or};
 ghost use Rattle.serial.specs.Texts.{same_text};
 ghost use Rattle.serial.specs.Places.{put, put_within};
 ghost use Rattle.serial.specs.Serials.{is_digit, digits_ok, is_serial, no_serial, padded, serial_of, serial_bytes, place_ok, holds_serial};
 
 // The 13 bytes of a serial in a card: the number of digits; the digits, and then zero bytes.
-#[derive(Drop)]
+#[derive(Clone, Copy)]
 pub struct Serial {
     pub len: u8,
     pub digits: [u8; 12],

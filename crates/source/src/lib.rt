@@ -1,9 +1,11 @@
 // The two current sources of a board, each made of both inputs by its multipliers.
+#![tactic(auto)]
+
 ghost use Rattle.std.specs.Prelude.{◌≡◌};
 ghost use Rattle.source.specs.Sources.{multipliers_in, uses_both, blended};
 
 // What a source takes of S1 and of S3. (So narrow that no product with an i32 can pass 64 bits.)
-#[derive(Drop)]
+#[derive(Clone, Copy)]
 pub struct Multipliers {
     pub m1: i8,
     pub m3: i8,

@@ -1,4 +1,6 @@
 // The samples' loop, on the sums alone: what the card and the configuration do to a sample is taken out of them once.
+#![tactic(auto)]
+
 ghost use Rattle.std.specs.Prelude.{◌≡◌, ◌+◌, ◌*◌, ◌≤◌, ◌<◌, pos, length, get_or};
 ghost use Rattle.std.specs.Int.Signed.{mag};
 ghost use Rattle.sample.specs.Sample.{mixed};
@@ -13,7 +15,7 @@ use sample::{Clips, Flow, Inputs, Sums, correct, phase_in_range, scale};
 use source::{Multipliers, blend, multipliers_in};
 
 // The five values that a sample needs of its card, and the multipliers of both sources.
-#[derive(Drop)]
+#[derive(Clone, Copy)]
 pub struct Probe {
     pub voffs: i32,
     pub ioffs: i32,
@@ -25,7 +27,7 @@ pub struct Probe {
 }
 
 // The three values of a sample, corrected, and the counts of clipped ones with it. (The inputs stay as wide as their mix is worked in.)
-#[derive(Drop)]
+#[derive(Clone, Copy)]
 pub struct Three {
     pub v: i32,
     pub s1: i64,
@@ -92,7 +94,7 @@ fn join(f: Flow, v: i32, i: i32) -> Flow
 
 // What the loop adds up: as the sums, but the three counts stand in one number, since the machine has few registers: 16 bits and more for each,
 // which is at most 4,096. And the raw inputs are left to the end.
-#[derive(Drop)]
+#[derive(Clone, Copy)]
 pub struct Tally {
     pub vv: u64,
     pub a: Flow,

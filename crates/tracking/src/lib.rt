@@ -1,11 +1,13 @@
 // Minima and maxima of the six tracked slots.
+#![tactic(auto)]
+
 ghost use Rattle.std.specs.Prelude.{◌≡◌};
 ghost use Rattle.tracking.specs.Tracking.{tracked, further, followed};
 
 use address::{WordAddr, place_of};
 
 // What each slot has followed.
-#[derive(Drop)]
+#[derive(Clone, Copy)]
 pub struct Ends {
     pub low: [i32; 6],
     pub high: [i32; 6],

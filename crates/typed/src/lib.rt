@@ -1,9 +1,11 @@
 // A whole number as it is typed on a command line.
+#![tactic(auto)]
+
 ghost use Rattle.std.specs.Prelude.{◌≡◌, ◌-◌, ◌≤◌, length};
 ghost use Rattle.typed.specs.Values.{numeral, held, is_numeral, signed_by, sized_value, value_of};
 
 // Whether a word is a whole decimal number, and which; one beyond every field's range is held at 100,000,000.
-#[derive(Drop)]
+#[derive(Clone, Copy)]
 pub struct Value {
     pub whole: bool,
     pub value: i64,

@@ -1,0 +1,35 @@
+-- `commit` meets its contract.
+use mathlib.Core.Path.{◌≡◌, sym, ap, ◌∙◌}
+use mathlib.Core.Bool.{true, false}
+use lib.IntN.{ℤ}
+use mir.Facts.{to_z-of_z}
+use Rattle.desk.specs.declared.Desk.{Desk}
+use Rattle.desk.specs.Desks.{finished}
+use Rattle.desk.specs.Answers.{finishing}
+use Rattle.aberzhan.specs.Inside.{is_port, desk_at, committed}
+use Rattle.aberzhan.proofs.Steps.{commits, commit_8}
+use Rattle.aberzhan.proofs.Module.commit.Goals as goal
+use Rattle.aberzhan.proofs.Module.commit.Goals.{After-desk-d, Else-is_port, Then-is_port}
+
+-- the number names a port, or none
+port : (c : Then-is_port) → is_port c.args.port ≡ true
+port c = rw (to_z-of_z c.ranges.port) at (sym c.is_port.ensures ∙ c.if-is_port.true)
+
+no_port : (c : Else-is_port) → is_port c.args.port ≡ false
+no_port c = rw (to_z-of_z c.ranges.port) at (sym c.is_port.ensures ∙ c.if-is_port.false)
+
+the_desk : (c : After-desk-d) → let a = c.args in c.desk-d.result ≡ desk_at a.self a.port
+the_desk c = rw (to_z-of_z c.ranges.port) at c.desk-d.ensures
+
+pub returns-then-is_port : goal.returns-then-is_port
+returns-then-is_port c =
+    let m = c.args.self in
+    let p = c.args.port in
+    c.commit_of.ensures
+    ∙ ap (λ (q : ℤ). committed m q c.finish-finished.result) (to_z-of_z c.ranges.port)
+    ∙ ap (committed m p) (c.finish-finished.ensures ∙ ap (λ (d : Desk). finishing d (finished d)) (the_desk (goal.at.returns-then-is_port c).After-desk-d))
+    ∙ commits m p (port (goal.at.returns-then-is_port c).Then-is_port)
+
+pub returns : goal.returns
+returns c =
+    c.refused.ensures ∙ commit_8 c.args.self c.args.port (no_port (goal.at.returns c).Else-is_port)

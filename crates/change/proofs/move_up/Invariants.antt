@@ -1,0 +1,12 @@
+-- `change::move_up` meets its contract: the bytes from i on are moved.
+use Prim.Native.Nat.{◌+◌, ◌-◌, ◌≤◌}
+use mathlib.Core.Path.{◌≡◌}
+use lib.ListN.{length}
+use Rattle.serial.specs.Places.{part, put}
+use Rattle.change.proofs.move_up.Given as goal
+
+abbrev pub invariant-loop-i : goal.invariant-loop-i
+invariant-loop-i l = (l.from ≤ l.i) × (l.i ≤ l.to) × (length l.b ≡ length l.initial.b) × (l.b ≡ put l.initial.b (l.i + l.by) (part l.initial.b l.i (l.to - l.i)))
+
+abbrev pub decreases-loop-i : goal.decreases-loop-i
+decreases-loop-i l = l.i - l.from

@@ -1,0 +1,7 @@
+-- `Closed::next` meets its contract.
+use Rattle.interval.specs.Close.{closed_of, number_after}
+use Rattle.interval.proofs.Closed.next.Goals as goal
+
+pub returns : goal.returns
+unfolding closed_of number_after
+returns c = rw (c.wrapping_add_u32.ensures.value, c.after-regs.ensures)

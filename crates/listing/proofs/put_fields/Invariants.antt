@@ -1,0 +1,12 @@
+-- `listing::put_fields` meets its contract: the fields passed stand in the line.
+use Prim.Native.Nat.{◌+◌, ◌*◌, ◌-◌, ◌≤◌}
+use lib.ListN.{take}
+use Rattle.listing.specs.Lines.{fields_text}
+use Rattle.listing.specs.Buffer.{Made}
+use Rattle.listing.proofs.put_fields.Given as goal
+
+abbrev pub invariant-loop-i : goal.invariant-loop-i
+invariant-loop-i l = (l.i ≤ 8) × (l.from + 97 ≤ 205852) × (Made l.initial.out l.out l.from l.at (fields_text (take l.i l.fields))) × (l.at ≤ l.from + 12 * l.i)
+
+abbrev pub decreases-loop-i : goal.decreases-loop-i
+decreases-loop-i l = 8 - l.i

@@ -1,0 +1,9 @@
+-- `range::holds` meets its contract.
+use mir.Facts.{to_z-of_z}
+use Rattle.range.specs.Range.{in24}
+use Rattle.range.proofs.holds.Goals as goal
+
+-- `range::holds` meets its contract.
+pub returns : goal.returns
+unfolding in24
+returns c = rw (to_z-of_z c.ranges.x)

@@ -1,0 +1,27 @@
+-- `serial::copy_in` meets its contract: k bytes of xs stand in b.
+use mathlib.Core.Path.{◌≡◌, refl, ◌∙◌}
+use native.Mathlib.Omega.{arith}
+use lib.ListN.{length, length-set}
+use Rattle.serial.proofs.Places.{copied_none, copied_more, copied_all}
+use Rattle.serial.proofs.copy_in.Goals as goal
+
+pub loop-k-init : goal.loop-k-init
+loop-k-init c = (omega arith, refl, copied_none c.args.b.now c.args.xs.now c.args.at)
+
+pub loop-k-preserved : goal.loop-k-preserved
+loop-k-preserved c =
+    let d = c.before.before in
+    let a = c.args in (
+      omega arith,
+      simp length-set d.loop-k.invariant.1,
+      rw d.loop-k.invariant.2 (copied_more a.b.now a.xs.now a.at d.loop-k.k (omega arith) (omega arith)),
+    )
+
+pub shape_of-b : goal.shape_of-b
+shape_of-b c = c.loop-k.invariant.1
+
+pub returns : goal.returns
+returns c =
+    let a = c.args in
+    let e : c.loop-k.k ≡ length a.xs.now = omega arith in
+    (rw e at c.loop-k.invariant.2) ∙ copied_all a.b.now a.xs.now a.at
