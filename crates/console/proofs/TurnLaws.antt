@@ -38,7 +38,7 @@ use Rattle.console.proofs.ItemLaws.{taken_out, packet_out}
 
 -- a number that is read from the buffer is the number
 pub as_read : (x : List ℤ) (k : ℕ) → mag (nth x k) < 2 ^ 63 → to_z w64 (of_z w64 (nth x k)) ≡ nth x k
-as_read x k h = to_z-of_z (record { sfits = h })
+as_read x k h = to_z-of_z {w = w64} {z = nth x k} (record { sfits = h })
 
 -- of a place that there is, whatever is read elsewhere
 pub any_default : (x : List ℤ) (k : ℕ) (d e : ℤ) → k < length x → get_or x k d ≡ get_or x k e
@@ -126,6 +126,24 @@ with_items_lem a b c m Reset rest h = refl
 with_items_lem a b c m Cards rest h = refl
 with_items_lem a b c m Help rest h = refl
 with_items_lem a b c m Other rest h = absurd (miss itemed 12 tt h)
+
+-- the same of a word that is none of the others
+pub with_items_by_words :
+    (a b c : ℕ) (m : Module) (w : Word) (rest : List ℕ) → (w ≡ Open → ⊥) → (w ≡ Poll → ⊥) → (w ≡ Block → ⊥) → (w ≡ Other → ⊥) →
+    with_items m w rest ≡ word_turn a b c m w rest
+with_items_by_words a b c m Start rest o p k e = refl
+with_items_by_words a b c m Open rest o p k e = absurd (o refl)
+with_items_by_words a b c m Write rest o p k e = refl
+with_items_by_words a b c m Commit rest o p k e = refl
+with_items_by_words a b c m Drop rest o p k e = refl
+with_items_by_words a b c m Hold rest o p k e = refl
+with_items_by_words a b c m Read rest o p k e = refl
+with_items_by_words a b c m Poll rest o p k e = absurd (p refl)
+with_items_by_words a b c m Block rest o p k e = absurd (k refl)
+with_items_by_words a b c m Reset rest o p k e = refl
+with_items_by_words a b c m Cards rest o p k e = refl
+with_items_by_words a b c m Help rest o p k e = refl
+with_items_by_words a b c m Other rest o p k e = absurd (e refl)
 
 -- ---- a line with numbers and names alone, once they stand in a buffer
 module _ (m : Module) (w : Word) (rest : List ℕ) (r : Row) (b : List ℤ) (f : Filled r lowest b (row_of (items_of w) rest)) where

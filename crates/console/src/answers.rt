@@ -50,7 +50,7 @@ const WHYS: [u8; 624] = *b"\
 ";
 
 // Where a text stands among the rows, and where it ends.
-#[derive(Drop)]
+#[derive(Clone, Copy)]
 pub struct Place {
     pub from: usize,
     pub to: usize,
@@ -79,7 +79,7 @@ fn place_of(why: Why) -> Place
 // Why a line is not read, in words.
 fn put_why(out: &mut [u8], used: usize, why: Why) -> usize
     requires { used + 48 ≤ length out.old }
-    ensures { (take result out.new ≡ take used out.old ++ ascii (whyWords why)) × (result ≤ used + 48) }
+    ensures { (take result out.new ≡ take used out.old ++ ascii (why_words why)) × (result ≤ used + 48) }
 {
     let rows = WHYS;
     let p = place_of(why);
@@ -90,7 +90,7 @@ fn put_why(out: &mut [u8], used: usize, why: Why) -> usize
 
 fn unread_line(out: &mut [u8], used: usize, why: Why) -> usize
     requires { used + 64 ≤ length out.old }
-    ensures { (take result out.new ≡ take used out.old ++ unreadLine why) × (result ≤ used + 64) }
+    ensures { (take result out.new ≡ take used out.old ++ unread_line why) × (result ≤ used + 64) }
 {
     let a = put(out, used, b"UNREAD: ");
     let b = put_why(out, a, why);
@@ -99,7 +99,7 @@ fn unread_line(out: &mut [u8], used: usize, why: Why) -> usize
 
 fn refused_line(out: &mut [u8], used: usize, number: u8) -> usize
     requires { used + 80 ≤ length out.old }
-    ensures { (take result out.new ≡ take used out.old ++ refusedLine number) × (result ≤ used + 80) }
+    ensures { (take result out.new ≡ take used out.old ++ refused_line number) × (result ≤ used + 80) }
 {
     let a = put(out, used, b"REFUSED ");
     let b = put_number(out, a, number as i64);
@@ -110,7 +110,7 @@ fn refused_line(out: &mut [u8], used: usize, number: u8) -> usize
 
 fn value_line(out: &mut [u8], used: usize, v: i64) -> usize
     requires { used + 64 ≤ length out.old }
-    ensures { (take result out.new ≡ take used out.old ++ valueLine v) × (result ≤ used + 64) }
+    ensures { (take result out.new ≡ take used out.old ++ value_line v) × (result ≤ used + 64) }
 {
     let a = put(out, used, b"ok ");
     let b = put_number(out, a, v);
@@ -120,7 +120,7 @@ fn value_line(out: &mut [u8], used: usize, v: i64) -> usize
 // A count, behind a space.
 fn put_count(out: &mut [u8], used: usize, count: u32) -> usize
     requires { used + 21 ≤ length out.old }
-    ensures { (take result out.new ≡ take used out.old ++ countText count) × (result ≤ used + 21) }
+    ensures { (take result out.new ≡ take used out.old ++ count_text count) × (result ≤ used + 21) }
 {
     let a = put(out, used, b" ");
     put_number(out, a, count as i64)
@@ -129,7 +129,7 @@ fn put_count(out: &mut [u8], used: usize, count: u32) -> usize
 // How many samples of V, of S1 and of S3 were clipped.
 fn put_clips(out: &mut [u8], used: usize, clips: Clips) -> usize
     requires { used + 63 ≤ length out.old }
-    ensures { (take result out.new ≡ take used out.old ++ clipsText clips) × (result ≤ used + 63) }
+    ensures { (take result out.new ≡ take used out.old ++ clips_text clips) × (result ≤ used + 63) }
 {
     let a = put_count(out, used, clips.v);
     let b = put_count(out, a, clips.s1);
@@ -139,7 +139,7 @@ fn put_clips(out: &mut [u8], used: usize, clips: Clips) -> usize
 // An alarm's word where it is set, else `-`.
 fn put_alarm(out: &mut [u8], used: usize, word: &[u8], set: bool) -> usize
     requires { (used + 5 ≤ length out.old) × (length word.now ≤ 5) }
-    ensures { (take result out.new ≡ take used out.old ++ alarmText word.now set) × (result ≤ used + 5) }
+    ensures { (take result out.new ≡ take used out.old ++ alarm_text word.now set) × (result ≤ used + 5) }
 {
     if set {
         return put(out, used, word);
@@ -150,7 +150,7 @@ fn put_alarm(out: &mut [u8], used: usize, word: &[u8], set: bool) -> usize
 // Both alarms, a space before each.
 fn put_alarms(out: &mut [u8], used: usize, alarms: Alarms) -> usize
     requires { used + 12 ≤ length out.old }
-    ensures { (take result out.new ≡ take used out.old ++ alarmsText alarms) × (result ≤ used + 12) }
+    ensures { (take result out.new ≡ take used out.old ++ alarms_text alarms) × (result ≤ used + 12) }
 {
     let a = put(out, used, b" ");
     let b = put_alarm(out, a, b"SAG", alarms.sag);
@@ -168,7 +168,7 @@ fn held_line(
     alarms: Alarms,
 ) -> usize
     requires { used + 112 ≤ length out.old }
-    ensures { (take result out.new ≡ take used out.old ++ heldLine number serial clips alarms) × (result ≤ used + 112) }
+    ensures { (take result out.new ≡ take used out.old ++ held_line number serial clips alarms) × (result ≤ used + 112) }
 {
     let a = put(out, used, b"ok ");
     let b = put_number(out, a, number as i64);
@@ -189,7 +189,7 @@ fn count_of(length: usize) -> usize
 // The bytes of a reply.
 fn reply_line(out: &mut [u8], used: usize, reply: Reply) -> usize
     requires { used + 768 ≤ length out.old }
-    ensures { (take result out.new ≡ take used out.old ++ replyLine reply) × (result ≤ used + 768) }
+    ensures { (take result out.new ≡ take used out.old ++ reply_line reply) × (result ≤ used + 768) }
 {
     let bytes = reply.bytes;
     let n = count_of(reply.length);
@@ -201,7 +201,7 @@ fn reply_line(out: &mut [u8], used: usize, reply: Reply) -> usize
 // The serials of the card in force and of the one that waits.
 fn cards_line(out: &mut [u8], used: usize, force: Serial, waiting: Serial) -> usize
     requires { used + 64 ≤ length out.old }
-    ensures { (take result out.new ≡ take used out.old ++ cardsLine force waiting) × (result ≤ used + 64) }
+    ensures { (take result out.new ≡ take used out.old ++ cards_line force waiting) × (result ≤ used + 64) }
 {
     let a = put(out, used, b"ok ");
     let b = put_card(out, a, force);
@@ -212,7 +212,7 @@ fn cards_line(out: &mut [u8], used: usize, force: Serial, waiting: Serial) -> us
 
 fn help_lines(out: &mut [u8], used: usize) -> usize
     requires { used + 1600 ≤ length out.old }
-    ensures { (take result out.new ≡ take used out.old ++ helpText) × (result ≤ used + 1600) }
+    ensures { (take result out.new ≡ take used out.old ++ help_text) × (result ≤ used + 1600) }
 {
     let help = HELP;
     put(out, used, &help)
@@ -221,7 +221,7 @@ fn help_lines(out: &mut [u8], used: usize) -> usize
 // What is said, behind the bytes that are used.
 pub(super) fn put_answer(out: &mut [u8], used: usize, t: Told) -> usize
     requires { used + 1600 ≤ length out.old }
-    ensures { (take result out.new ≡ take used out.old ++ toldText t) × (result ≤ used + 1600) }
+    ensures { (take result out.new ≡ take used out.old ++ told_text t) × (result ≤ used + 1600) }
 {
     let said = t.said;
     let serial = t.serial;

@@ -8,10 +8,11 @@ use super::turns::take_line;
 use aberzhan::Module;
 use address::word_addr;
 use alarm::Asked;
-use libc::{STDIN_FILENO, STDOUT_FILENO};
+use std::io;
+use std::io::Read;
 
 // The module, how many bytes of a line are kept, and how many of the answers' are not yet written.
-#[derive(Drop)]
+#[derive(Clone, Copy)]
 pub struct Session {
     pub module: Module,
     pub kept: usize,
@@ -19,7 +20,7 @@ pub struct Session {
 }
 
 // A session and whether there may be more input.
-#[derive(Drop)]
+#[derive(Clone, Copy)]
 pub struct More {
     pub session: Session,
     pub more: bool,
@@ -132,36 +133,51 @@ fn take_part(
 }
 
 // Writes the answers out; an output that takes no more ends the session.
-fn write_out(mut s: Session, out: &[u8]) -> More
+fn write_out(rt: &(impl Print + Eprint), mut s: Session, out: &[u8]) -> More
     requires { s.used ≤ length out.now }
     ensures { result.session ≡ written s }
 {
     let used = s.used;
     s.used = 0;
-    let more = print(&out[..used]);
+    let more = print(rt, &out[..used]);
     More { session: s, more }
 }
 
-fn print(text: &[u8]) -> bool {
+fn print(rt: &(impl Print + Eprint), text: &[u8]) -> bool {
     if text.len() == 0 {
         return true;
     }
-    if io::write_all(STDOUT_FILENO, text) {
-        return true;
+    match rt.write_all(text) {
+        Ok(()) => true,
+        Err(error) => {
+            let _ = eprintln!(rt; "console: standard output: {error}");
+            false
+        }
     }
-    os::fail(b"console: standard output");
-    false
 }
 
 // A read that fails ends the input as its end does, and is told.
-fn tell_failure(got: isize) {
-    if got < 0 {
-        os::fail(b"console: standard input");
+fn tell_failure(rt: &impl Eprint, error: io::Error) {
+    let _ = eprintln!(rt; "console: standard input: {error}");
+}
+
+// How many bytes one read puts at the front of the chunk; 0 at the end of the input.
+fn read_chunk(rt: &impl Eprint, input: &mut impl Read, chunk: &mut [u8]) -> usize
+    ensures { result ≤ length chunk.new }
+{
+    match input.read(chunk) {
+        Ok(n) => n,
+        Err(error) => {
+            tell_failure(rt, error);
+            0
+        }
     }
 }
 
 // One read. Its answers are written before the next, so that whoever types sees each answer.
 fn read_some(
+    rt: &(impl Print + Eprint),
+    input: &mut impl Read,
     mut s: Session,
     chunk: &mut [u8],
     line: &mut [u8],
@@ -173,9 +189,7 @@ fn read_some(
     requires { Ready s line.old out.old v.old s1.old s3.old (length chunk.old) }
     ensures { Ready result.session line.new out.new v.new s1.new s3.new (length chunk.new) }
 {
-    let got = libc::read(STDIN_FILENO, chunk);
-    tell_failure(got);
-    let n = io::count(got, chunk);
+    let n = read_chunk(rt, input, chunk);
     if n == 0 {
         return More {
             session: s,
@@ -183,11 +197,12 @@ fn read_some(
         };
     }
     s = take_part(s, &chunk[..n], line, v, s1, s3, out);
-    write_out(s, out)
+    write_out(rt, s, out)
 }
 
 // A last line may lack its line feed.
 fn end_input(
+    rt: &(impl Print + Eprint),
     mut s: Session,
     line: &[u8],
     v: &mut [i32],
@@ -198,11 +213,12 @@ fn end_input(
     requires { Ready s line.now out.old v.old s1.old s3.old 1 }
 {
     s = end_line(s, line, v, s1, s3, out);
-    write_out(s, out);
+    write_out(rt, s, out);
 }
 
 // Reads to the end of the input. Nothing says that there is one, so the turns are counted down, from a number that no run uses up.
 pub(super) fn run(
+    rt: &(impl Input + Print + Eprint),
     chunk: &mut [u8],
     line: &mut [u8],
     v: &mut [i32],
@@ -212,15 +228,16 @@ pub(super) fn run(
 )
     requires { Rooms chunk.old line.old out.old v.old s1.old s3.old }
 {
+    let mut input = rt.reader();
     let mut m = begun();
     let mut turns = u64::MAX;
     while turns > 0 {
-        m = read_some(m.session, chunk, line, v, s1, s3, out);
+        m = read_some(rt, &mut input, m.session, chunk, line, v, s1, s3, out);
         if m.more {
             turns -= 1;
         } else {
             turns = 0;
         }
     }
-    end_input(m.session, line, v, s1, s3, out);
+    end_input(rt, m.session, line, v, s1, s3, out);
 }

@@ -10,14 +10,14 @@ use address::{WordAddr, byte_of};
 use names::Named;
 
 // What a text begins with: a space and an item that is worth a number, and how many bytes they take; or not.
-#[derive(Drop)]
+#[derive(Clone, Copy)]
 pub enum Next {
     Number(i64, usize),
     Not,
 }
 
 // How many items a text begins with, and how many bytes they take.
-#[derive(Drop)]
+#[derive(Clone, Copy)]
 pub struct Row {
     pub count: usize,
     pub taken: usize,

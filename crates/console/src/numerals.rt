@@ -5,13 +5,13 @@ ghost use Rattle.console.specs.Numbers.{digit_of, digits_of, positive, negative,
 use super::texts::begins;
 
 // What a row of digits is worth, up to 2^63.
-#[derive(Drop)]
+#[derive(Clone, Copy)]
 pub enum Worth {
     Is(u64),
     Not,
 }
 
-#[derive(Drop)]
+#[derive(Clone, Copy)]
 pub enum Number {
     Is(i64),
     Not,

@@ -7,7 +7,7 @@ use super::texts::begins;
 use super::unread::{Why, slice_stopped};
 
 // How many samples it has, and where the text goes on behind its bar; or why the line is not read.
-#[derive(Drop)]
+#[derive(Clone, Copy)]
 pub enum Slice {
     Ends(usize, usize),
     Stops(Why),

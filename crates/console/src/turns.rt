@@ -23,7 +23,7 @@ use steps::Answer;
 // A longer line is not read.
 const LONGEST: usize = 131071;
 
-#[derive(Drop)]
+#[derive(Clone, Copy)]
 pub enum Said {
     Unread(Why),
     Refused(u8),
@@ -36,7 +36,7 @@ pub enum Said {
 }
 
 // The bytes that answer a packet: so many, at the front.
-#[derive(Drop)]
+#[derive(Clone, Copy)]
 pub struct Reply {
     pub bytes: [u8; 255],
     pub length: usize,
@@ -44,7 +44,7 @@ pub struct Reply {
 
 // What is said. A hold says an interval's number, its serial, its counts of clipped samples and both alarms, a poll its reply, `cards` the
 // serials in force and waiting.
-#[derive(Drop)]
+#[derive(Clone, Copy)]
 pub struct Told {
     pub said: Said,
     pub number: u32,
@@ -56,7 +56,7 @@ pub struct Told {
 }
 
 // What is said, and the module after the step.
-#[derive(Drop)]
+#[derive(Clone, Copy)]
 pub struct Turn {
     pub told: Told,
     pub after: Module,

@@ -5,7 +5,7 @@ ghost use Rattle.console.specs.Words.{items_of};
 
 use super::words::{Kind, Word, arity, kind_at};
 
-#[derive(Drop)]
+#[derive(Clone, Copy)]
 pub enum Why {
     TooLong,
     NoStep,

@@ -5,7 +5,7 @@ ghost use Rattle.console.specs.Words.{words, first_of, word_of, most, items_of, 
 
 use serial::same_text;
 
-#[derive(Drop)]
+#[derive(Clone, Copy)]
 pub enum Word {
     Start,
     Open,
@@ -23,7 +23,7 @@ pub enum Word {
 }
 
 // What must stand at an item's place: a number; one or a name beside it; a sample; how many bytes are lent; a byte.
-#[derive(Drop)]
+#[derive(Clone, Copy)]
 pub enum Kind {
     Number,
     Field,

@@ -5,7 +5,7 @@ ghost use Rattle.refusal.specs.Words.{words_of};
 ghost use Rattle.counter.specs.Lines.{shown, text_line, number_line, refused_line};
 
 // A line as it is made: its first len bytes.
-#[derive(Drop)]
+#[derive(Clone, Copy)]
 pub struct Line {
     pub bytes: [u8; 96],
     pub len: usize,

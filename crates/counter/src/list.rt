@@ -3,26 +3,23 @@ ghost use Rattle.std.specs.Prelude.{◌≡◌};
 ghost use Rattle.listing.specs.Lines.{listing};
 
 // Writes the listing of a book. Whoever calls it has to show that the text is that listing, whole.
-fn print(book: &[u8], text: &[u8])
+fn print(rt: &(impl Print + Eprint), book: &[u8], text: &[u8])
     requires { text.now ≡ listing book.now }
 {
-    if io::write_all(libc::STDOUT_FILENO, text) {
-        return;
-    }
-    os::fail(b"counter: standard output");
+    crate::say(rt, text);
 }
 
-fn print_listing(book: &[u8]) {
+fn print_listing(rt: &(impl Print + Eprint), book: &[u8]) {
     let mut text = [0u8; listing::ROOM];
     let length = listing::whole(book, &mut text);
-    print(book, &text[..length]);
+    print(rt, book, &text[..length]);
 }
 
 // A file that is no book is refused with its words.
-pub(crate) fn print_book(book: &[u8]) {
+pub(crate) fn print_book(rt: &(impl Print + Eprint), book: &[u8]) {
     if book::is_book(book) {
-        print_listing(book);
+        print_listing(rt, book);
     } else {
-        crate::refuse(-2);
+        crate::refuse(rt, -2);
     }
 }

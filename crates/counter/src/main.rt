@@ -2,58 +2,117 @@
 //
 // A change is written whole to a second file, BOOK.new, and put in place by a rename: a stop at any moment leaves the old book or the
 // new one. The second file is made first, and only where it is not there yet, so that no two changes are under way at the same time.
+#![tactic(auto)]
+
 mod lines;
 mod list;
 mod orders;
 
-ghost use Rattle.std.specs.Prelude.{◌≤◌, length};
+ghost use Rattle.std.specs.Prelude.{◌≤◌, length, IfOk};
 
-use libc::STDOUT_FILENO;
 use lines::Line;
 use orders::Order;
+use std::env::FillError;
+use std::fs::{File, OpenFile, OpenOptions};
+use std::io::{Read, Write};
+use std::rt::{Env, Files};
+use std::{fs, io};
 use typed::Value;
 
 // The eight values of a new card, or which of them, from 1, is no whole number.
-#[derive(Drop)]
+#[derive(Clone, Copy)]
 struct Fields {
     unread: usize,
     fields: [i64; 8],
 }
 
-fn say(text: &[u8]) {
-    if !io::write_all(STDOUT_FILENO, text) {
-        os::fail(b"counter: standard output");
+fn say(rt: &(impl Print + Eprint), text: &[u8]) {
+    if let Err(error) = rt.write_all(text) {
+        let _ = eprintln!(rt; "counter: standard output: {error}");
     }
 }
 
-fn print_bytes(bytes: [u8; 96], n: usize) {
+fn print_bytes(rt: &(impl Print + Eprint), bytes: [u8; 96], n: usize) {
     if n <= 96 {
-        say(&bytes[0..n]);
+        say(rt, &bytes[0..n]);
     }
 }
 
-fn print(line: Line) {
+fn print(rt: &(impl Print + Eprint), line: Line) {
     let bytes = line.bytes;
-    print_bytes(bytes, line.len);
+    print_bytes(rt, bytes, line.len);
 }
 
 // What the system refused, by its own words on standard error.
-fn not_done(path: &[u8]) {
-    os::fail(path);
-    say(b"NOT DONE\n");
+fn not_done(rt: &(impl Print + Eprint), path: &[u8], error: io::Error) {
+    for part in path.utf8_chunks() {
+        let _ = eprint!(rt; "{}", part.valid());
+        if !part.invalid().is_empty() {
+            let _ = eprint!(rt; "\u{FFFD}");
+        }
+    }
+    let _ = eprintln!(rt; ": {error}");
+    say(rt, b"NOT DONE\n");
 }
 
-fn usage() {
+fn usage(rt: &(impl Print + Eprint)) {
     say(
+        rt,
         b"UNREAD: counter BOOK find LABEL | add LABEL F1 .. F8 | withdraw LABEL | list | check | new\n",
     );
 }
 
-fn refuse(answer: i64) {
+fn refuse(rt: &(impl Print + Eprint), answer: i64) {
     let n = number::size(answer);
     if n <= 21 {
-        print(lines::refused_line(n as u8));
+        print(rt, lines::refused_line(n as u8));
     }
+}
+
+// An argument, put at the front of a buffer: how many bytes it has. A missing one counts as empty, and so does one that is longer than
+// the buffer.
+fn argument(rt: &impl Env, k: usize, buffer: &mut [u8]) -> usize
+    ensures { result ≤ length buffer.new }
+{
+    match rt.arg(k, buffer) {
+        Ok(n) => n,
+        Err(_) => 0,
+    }
+}
+
+// How many words stand on the command line, the program's name among them.
+fn argument_count(rt: &impl Env) -> usize {
+    for k in 0..usize::MAX {
+        let mut byte = [0u8; 1];
+        if let Err(FillError::NotPresent) = rt.arg(k, &mut byte) {
+            return k;
+        }
+    }
+    usize::MAX
+}
+
+// A path as text, which is how std takes it: one that is no UTF-8 is refused as a name.
+fn path_text(path: &[u8]) -> io::Result<&str> {
+    match str::from_utf8(path) {
+        Ok(text) => Ok(text),
+        Err(_) => Err(io::Error::from(io::ErrorKind::InvalidFilename)),
+    }
+}
+
+// Makes a file and opens it for writing, only where there is none of this name yet.
+fn create<R: Files>(rt: &R, path: &[u8]) -> io::Result<R::File> {
+    OpenOptions::new()
+        .write(true)
+        .create_new(true)
+        .open(rt, path_text(path)?)
+}
+
+fn rename(rt: &impl Files, from: &[u8], to: &[u8]) -> io::Result<()> {
+    fs::rename(rt, path_text(from)?, path_text(to)?)
+}
+
+fn remove(rt: &impl Files, path: &[u8]) -> io::Result<()> {
+    fs::remove_file(rt, path_text(path)?)
 }
 
 // The name of the second file: that of the book and .new. 0 where it would be too long for a name.
@@ -68,16 +127,16 @@ fn beside(path: &[u8], name: &mut [u8; 4096]) -> usize {
 }
 
 // A word longer than the buffer counts as empty: it is no number, and no label either.
-fn value_at(k: usize) -> Value {
-    let mut buffer = io::buffer();
-    let n = os::arg(k, &mut buffer);
+fn value_at(rt: &impl Env, k: usize) -> Value {
+    let mut buffer = [0u8; 4096];
+    let n = argument(rt, k, &mut buffer);
     typed::value_of(&buffer[..n])
 }
 
-fn read_values() -> Fields {
+fn read_values(rt: &impl Env) -> Fields {
     let mut fields = [0i64; 8];
     for k in 0..8usize {
-        let v = value_at(4 + k);
+        let v = value_at(rt, 4 + k);
         if v.whole {
             let x = v.value;
             fields[k] = x;
@@ -91,80 +150,100 @@ fn read_values() -> Fields {
     Fields { unread: 0, fields }
 }
 
-fn print_field(name: &[u8], value: i64)
+fn print_field(rt: &(impl Print + Eprint), name: &[u8], value: i64)
     requires { length name.now ≤ 20 }
 {
-    print(lines::number_line(name, value));
+    print(rt, lines::number_line(name, value));
 }
 
-fn print_card(card: &[u8], label: &[u8]) {
+fn print_card(rt: &(impl Print + Eprint), card: &[u8], label: &[u8]) {
     let mut f = [0i64; 8];
     stock::read::stock_fields(card, &mut f);
     if label.len() <= 12 {
-        print(lines::text_line(b"SERIAL", label));
+        print(rt, lines::text_line(b"SERIAL", label));
     }
-    print_field(b"VOFFS", f[0]);
-    print_field(b"IOFFS", f[1]);
-    print_field(b"VGAIN", f[2]);
-    print_field(b"IGAIN", f[3]);
-    print_field(b"PHASE", f[4]);
-    print_field(b"IRMSOFFS", f[5]);
-    print_field(b"SQUELCH", f[6]);
-    print_field(b"POFFS", f[7]);
+    print_field(rt, b"VOFFS", f[0]);
+    print_field(rt, b"IOFFS", f[1]);
+    print_field(rt, b"VGAIN", f[2]);
+    print_field(rt, b"IGAIN", f[3]);
+    print_field(rt, b"PHASE", f[4]);
+    print_field(rt, b"IRMSOFFS", f[5]);
+    print_field(rt, b"SQUELCH", f[6]);
+    print_field(rt, b"POFFS", f[7]);
 }
 
-fn find(book: &[u8]) {
-    let mut buffer = io::buffer();
-    let n = os::arg(3, &mut buffer);
+fn find(rt: &(impl Env + Print + Eprint), book: &[u8]) {
+    let mut buffer = [0u8; 4096];
+    let n = argument(rt, 3, &mut buffer);
     let place = stock::stock_lookup(book, &buffer[..n]);
     if place < 0 {
-        refuse(place);
+        refuse(rt, place);
         return;
     }
-    print_card(lookup::card_of(book, &buffer[..n]), &buffer[..n]);
+    print_card(rt, lookup::card_of(book, &buffer[..n]), &buffer[..n]);
 }
 
-fn check(book: &[u8]) {
+fn check(rt: &(impl Print + Eprint), book: &[u8]) {
     let answer = stock::read::stock_check(book);
     if answer < 0 {
-        refuse(answer);
+        refuse(rt, answer);
         return;
     }
-    say(b"WELL FORMED\n");
+    say(rt, b"WELL FORMED\n");
+}
+
+// Reads until the buffer is full, the input ends or a read fails: how many bytes it put at the front.
+fn read_full(file: &mut impl Read, buffer: &mut [u8]) -> usize
+    ensures { result ≤ length buffer.new }
+{
+    let mut done = 0;
+    while done < buffer.len() {
+        match file.read(&mut buffer[done..]) {
+            Ok(0) | Err(_) => return done,
+            Ok(n) => done += n,
+        }
+    }
+    done
 }
 
 // Whether a file's bytes ended, or were more than there was room for, and did not stop at a read that failed: the next read tells.
-fn was_read(file: i32) -> bool {
+fn was_read(file: &mut impl Read) -> io::Result<()> {
     let mut byte = [0u8; 1];
-    0 <= libc::read(file, &mut byte)
+    file.read(&mut byte)?;
+    Ok(())
+}
+
+// Reads the book, or as much of it as there is room for: how many bytes.
+fn read_book(rt: &impl Files, path: &[u8], bytes: &mut [u8; 65536]) -> io::Result<usize>
+    ensures { IfOk result (λ n. n ≤ length bytes.new) }
+{
+    let mut file = File::open(rt, path_text(path)?)?;
+    let n = read_full(&mut file, bytes);
+    was_read(&mut file)?;
+    Ok(n)
 }
 
 // The orders that only read the book.
-fn look(order: Order, path: &[u8]) {
-    let file = os::open_read(path);
-    if file < 0 {
-        not_done(path);
-        return;
-    }
-    let mut bytes = io::large_buffer();
-    let n = io::read_full(file, &mut bytes);
-    if !was_read(file) {
-        not_done(path);
-        libc::close(file);
-        return;
-    }
-    libc::close(file);
+fn look(rt: &(impl Env + Files + Print + Eprint), order: Order, path: &[u8]) {
+    let mut bytes = [0u8; 65536];
+    let n = match read_book(rt, path, &mut bytes) {
+        Ok(n) => n,
+        Err(error) => {
+            not_done(rt, path, error);
+            return;
+        }
+    };
     match order {
-        Order::Find => find(&bytes[..n]),
-        Order::List => list::print_book(&bytes[..n]),
-        _ => check(&bytes[..n]),
+        Order::Find => find(rt, &bytes[..n]),
+        Order::List => list::print_book(rt, &bytes[..n]),
+        _ => check(rt, &bytes[..n]),
     }
 }
 
 // Adds or withdraws in a buffer of which the book takes n bytes: the new length, or the refusal.
-fn change(order: Order, buffer: &mut [u8; 65536], n: usize, f: [i64; 8]) -> i64 {
-    let mut word = io::buffer();
-    let m = os::arg(3, &mut word);
+fn change(rt: &impl Env, order: Order, buffer: &mut [u8; 65536], n: usize, f: [i64; 8]) -> i64 {
+    let mut word = [0u8; 4096];
+    let m = argument(rt, 3, &mut word);
     match order {
         Order::Add => {
             stock::stock_add(
@@ -186,124 +265,142 @@ fn change(order: Order, buffer: &mut [u8; 65536], n: usize, f: [i64; 8]) -> i64 
 }
 
 // Writes bytes to a file and to its disk.
-fn keep(file: i32, bytes: &[u8]) -> bool {
-    if io::write_all(file, bytes) {
-        return libc::fsync(file) == 0;
-    }
-    false
+fn keep(file: &mut (impl Write + OpenFile), bytes: &[u8]) -> io::Result<()> {
+    file.write_all(bytes)?;
+    file.sync_all()
 }
 
-fn keep_first(file: i32, bytes: [u8; 65536], n: u64) -> bool {
+fn keep_first(file: &mut (impl Write + OpenFile), bytes: [u8; 65536], n: u64) -> io::Result<()> {
     if n <= 65536 {
         let end = n as usize;
         return keep(file, &bytes[0..end]);
     }
-    false
+    Err(io::Error::from(io::ErrorKind::InvalidInput))
 }
 
 // Reads the book, changes it and writes the new one to the second file: whether that is whole.
-fn write_changed(order: Order, path: &[u8], f: [i64; 8], second: i32) -> bool {
-    let file = os::open_read(path);
-    if file < 0 {
-        not_done(path);
-        return false;
-    }
-    let mut bytes = io::large_buffer();
-    let n = io::read_full(file, &mut bytes);
-    if !was_read(file) {
-        not_done(path);
-        libc::close(file);
-        return false;
-    }
-    libc::close(file);
-    let answer = change(order, &mut bytes, n, f);
+fn write_changed<R: Env + Files + Print + Eprint>(
+    rt: &R,
+    order: Order,
+    path: &[u8],
+    f: [i64; 8],
+    second: &mut R::File,
+) -> bool {
+    let mut bytes = [0u8; 65536];
+    let n = match read_book(rt, path, &mut bytes) {
+        Ok(n) => n,
+        Err(error) => {
+            not_done(rt, path, error);
+            return false;
+        }
+    };
+    let answer = change(rt, order, &mut bytes, n, f);
     if answer < 0 {
-        refuse(answer);
+        refuse(rt, answer);
         return false;
     }
-    if keep_first(second, bytes, number::size(answer)) {
-        return true;
+    match keep_first(second, bytes, number::size(answer)) {
+        Ok(()) => true,
+        Err(error) => {
+            not_done(rt, path, error);
+            false
+        }
     }
-    not_done(path);
-    false
 }
 
 // Changes the book by way of a second file of this name.
-fn alter_by(order: Order, path: &[u8], f: [i64; 8], name: &[u8]) {
-    let second = os::create(name);
-    if second < 0 {
-        not_done(name);
-        return;
-    }
-    let whole = write_changed(order, path, f, second);
-    libc::close(second);
-    if whole {
-        if os::rename(name, path) == 0 {
-            say(b"DONE\n");
+fn alter_by(
+    rt: &(impl Env + Files + Print + Eprint),
+    order: Order,
+    path: &[u8],
+    f: [i64; 8],
+    name: &[u8],
+) {
+    let mut second = match create(rt, name) {
+        Ok(file) => file,
+        Err(error) => {
+            not_done(rt, name, error);
             return;
         }
-        not_done(path);
+    };
+    let whole = write_changed(rt, order, path, f, &mut second);
+    drop(second);
+    if whole {
+        match rename(rt, name, path) {
+            Ok(()) => {
+                say(rt, b"DONE\n");
+                return;
+            }
+            Err(error) => not_done(rt, path, error),
+        }
     }
-    os::unlink(name);
+    let _ = remove(rt, name);
 }
 
-fn alter_from(order: Order, path: &[u8], f: [i64; 8], name: [u8; 4096], m: usize) {
+fn alter_from(
+    rt: &(impl Env + Files + Print + Eprint),
+    order: Order,
+    path: &[u8],
+    f: [i64; 8],
+    name: [u8; 4096],
+    m: usize,
+) {
     if m <= 4096 {
-        alter_by(order, path, f, &name[0..m]);
+        alter_by(rt, order, path, f, &name[0..m]);
     }
 }
 
 // The orders that change the book.
-fn alter(order: Order, path: &[u8], f: [i64; 8]) {
+fn alter(rt: &(impl Env + Files + Print + Eprint), order: Order, path: &[u8], f: [i64; 8]) {
     let mut name = [0u8; 4096];
     let m = beside(path, &mut name);
-    alter_from(order, path, f, name, m);
+    alter_from(rt, order, path, f, name, m);
 }
 
-fn add(path: &[u8]) {
-    let v = read_values();
+fn add(rt: &(impl Env + Files + Print + Eprint), path: &[u8]) {
+    let v = read_values(rt);
     let k = v.unread;
     if 0 < k {
         if k <= 8 {
-            print(lines::number_line(b"UNREAD: VALUE", k as i64));
+            print(rt, lines::number_line(b"UNREAD: VALUE", k as i64));
         }
         return;
     }
     let fields = v.fields;
-    alter(Order::Add, path, fields);
+    alter(rt, Order::Add, path, fields);
 }
 
 // An empty book, where there is no file of this name yet.
-fn make(path: &[u8]) {
-    let file = os::create(path);
-    if file < 0 {
-        not_done(path);
+fn make(rt: &(impl Files + Print + Eprint), path: &[u8]) {
+    let mut file = match create(rt, path) {
+        Ok(file) => file,
+        Err(error) => {
+            not_done(rt, path, error);
+            return;
+        }
+    };
+    if let Err(error) = keep(&mut file, &[0u8, 0, 0, 0]) {
+        not_done(rt, path, error);
+        let _ = remove(rt, path);
         return;
     }
-    let whole = keep(file, &[0u8, 0, 0, 0]);
-    if !whole {
-        not_done(path);
-        os::unlink(path);
-    }
-    libc::close(file);
-    if whole {
-        say(b"DONE\n");
-    }
+    drop(file);
+    say(rt, b"DONE\n");
 }
 
-fn main() {
-    let mut path = io::buffer();
-    let n = os::arg(1, &mut path);
-    let mut word = io::buffer();
-    let m = os::arg(2, &mut word);
-    let order = orders::order_of(&word[..m], os::arg_count());
+fn main(rt: HostRuntime) {
+    let mut path = [0u8; 4096];
+    let n = argument(&rt, 1, &mut path);
+    let mut word = [0u8; 4096];
+    let m = argument(&rt, 2, &mut word);
+    let order = orders::order_of(&word[..m], argument_count(&rt));
     match order {
-        Order::Find => look(Order::Find, &path[..n]),
-        Order::List => look(Order::List, &path[..n]),
-        Order::Check => look(Order::Check, &path[..n]),
-        Order::Add => add(&path[..n]),
-        Order::Withdraw => alter(Order::Withdraw, &path[..n], [0i64; 8]),
-        Order::New => make(&path[..n]),
-        Order::Unread => usage(),
+        Order::Find => look(&rt, Order::Find, &path[..n]),
+        Order::List => look(&rt, Order::List, &path[..n]),
+        Order::Check => look(&rt, Order::Check, &path[..n]),
+        Order::Add => add(&rt, &path[..n]),
+        Order::Withdraw => alter(&rt, Order::Withdraw, &path[..n], [0i64; 8]),
+        Order::New => make(&rt, &path[..n]),
+        Order::Unread => usage(&rt),
     }
 }

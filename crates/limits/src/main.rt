@@ -1,40 +1,40 @@
 // Runs what document 01 lists under "Run by a program", the W of change request A3 and the configuration of A5: each limit, and one past it.
 // Prints a line for each with the answer.
+#![tactic(auto)]
+
 use aberzhan::{Module, Stepped};
 use address::WordAddr;
 use alarm::Asked;
 use change::Changed;
-use libc::STDOUT_FILENO;
 use serial::Serial;
 use steps::Answer;
 
-fn say(text: &[u8]) {
-    io::write_all(STDOUT_FILENO, text);
+// An output that takes no more is not told.
+fn say(rt: &impl Print, text: &[u8]) {
+    let _ = rt.write_all(text);
 }
 
-fn say_refused(number: u64) {
-    say(b"REFUSED ");
-    io::print_decimal(STDOUT_FILENO, number);
-    say(b"\n");
+fn say_refused(rt: &impl Print, number: u64) {
+    let _ = println!(rt; "REFUSED {number}");
 }
 
-fn say_step(s: Stepped) {
+fn say_step(rt: &impl Print, s: Stepped) {
     let answer = s.answer;
     match answer {
-        Answer::Done => say(b"TAKEN\n"),
-        Answer::Refused(number) => say_refused(number as u64),
+        Answer::Done => say(rt, b"TAKEN\n"),
+        Answer::Refused(number) => say_refused(rt, number as u64),
     }
 }
 
-fn say_changed(changed: Changed) {
+fn say_changed(rt: &impl Print, changed: Changed) {
     match changed {
-        Changed::Length(_) => say(b"TAKEN\n"),
-        Changed::NotSerial => say_refused(1),
-        Changed::Malformed => say_refused(2),
-        Changed::OutOfRange => say_refused(12),
-        Changed::Present => say_refused(19),
-        Changed::Full => say_refused(20),
-        Changed::NoRoom => say_refused(21),
+        Changed::Length(_) => say(rt, b"TAKEN\n"),
+        Changed::NotSerial => say_refused(rt, 1),
+        Changed::Malformed => say_refused(rt, 2),
+        Changed::OutOfRange => say_refused(rt, 12),
+        Changed::Present => say_refused(rt, 19),
+        Changed::Full => say_refused(rt, 20),
+        Changed::NoRoom => say_refused(rt, 21),
     }
 }
 
@@ -52,48 +52,48 @@ fn half_cycle(w: i64) -> Asked {
     }
 }
 
-fn open(m: Module, serial: &[u8]) {
+fn open(rt: &impl Print, m: Module, serial: &[u8]) {
     let s = m.open(0, serial);
-    say_step(s);
+    say_step(rt, s);
 }
 
 // 12 digits taken, 13 refused.
-fn serials() {
+fn serials(rt: &impl Print) {
     let s = Module::start(1, 1, off(), half_cycle(1), 0);
-    say(b"SERIAL OF 12 DIGITS ");
-    open(s.after, b"012345678901");
-    say(b"SERIAL OF 13 DIGITS ");
-    open(s.after, b"0123456789012");
+    say(rt, b"SERIAL OF 12 DIGITS ");
+    open(rt, s.after, b"012345678901");
+    say(rt, b"SERIAL OF 13 DIGITS ");
+    open(rt, s.after, b"0123456789012");
 }
 
 // N 4,096 taken, 4,097 refused.
-fn starts() {
-    say(b"N 4096 ");
+fn starts(rt: &impl Print) {
+    say(rt, b"N 4096 ");
     let a = Module::start(4096, 1, off(), half_cycle(1), 0);
-    say_step(a);
-    say(b"N 4097 ");
+    say_step(rt, a);
+    say(rt, b"N 4097 ");
     let b = Module::start(4097, 1, off(), half_cycle(1), 0);
-    say_step(b);
+    say_step(rt, b);
 }
 
 // W 512 taken, 513 refused.
-fn half_cycles() {
-    say(b"W 512 ");
+fn half_cycles(rt: &impl Print) {
+    say(rt, b"W 512 ");
     let a = Module::start(1, 1, off(), half_cycle(512), 0);
-    say_step(a);
-    say(b"W 513 ");
+    say_step(rt, a);
+    say(rt, b"W 513 ");
     let b = Module::start(1, 1, off(), half_cycle(513), 0);
-    say_step(b);
+    say_step(rt, b);
 }
 
 // Configuration 255 taken, 256 refused.
-fn configurations() {
-    say(b"CONFIG 255 ");
+fn configurations(rt: &impl Print) {
+    say(rt, b"CONFIG 255 ");
     let a = Module::start(1, 1, off(), half_cycle(1), 255);
-    say_step(a);
-    say(b"CONFIG 256 ");
+    say_step(rt, a);
+    say(rt, b"CONFIG 256 ");
     let b = Module::start(1, 1, off(), half_cycle(1), 256);
-    say_step(b);
+    say_step(rt, b);
 }
 
 // Gain one and other fields 0.
@@ -114,19 +114,19 @@ fn with_card() -> Module {
     c.after
 }
 
-fn feed(m: Module, samples: &[i32]) {
+fn feed(rt: &impl Print, m: Module, samples: &[i32]) {
     let s = m.block(samples, samples, samples);
-    say_step(s);
+    say_step(rt, s);
 }
 
 // A block of 4,096 and of 4,097.
-fn blocks() {
+fn blocks(rt: &impl Print) {
     let m = with_card();
     let samples = [1i32; 4097];
-    say(b"BLOCK OF 4096 ");
-    feed(m, &samples[0..4096]);
-    say(b"BLOCK OF 4097 ");
-    feed(m, &samples);
+    say(rt, b"BLOCK OF 4096 ");
+    feed(rt, m, &samples[0..4096]);
+    say(rt, b"BLOCK OF 4097 ");
+    feed(rt, m, &samples);
 }
 
 // The serial of card k: four digits.
@@ -154,22 +154,22 @@ fn lay_cards(buffer: &mut [u8]) {
 }
 
 // Card 1,024 and 1,025.
-fn cards() {
-    let mut buffer = io::large_buffer();
+fn cards(rt: &impl Print) {
+    let mut buffer = [0u8; 65536];
     lay_cards(&mut buffer);
-    say(b"CARD 1024 ");
+    say(rt, b"CARD 1024 ");
     let a = change::add(&mut buffer, 37855, b"1023", PLAIN);
-    say_changed(a);
-    say(b"CARD 1025 ");
+    say_changed(rt, a);
+    say(rt, b"CARD 1025 ");
     let b = change::add(&mut buffer, 37892, b"1024", PLAIN);
-    say_changed(b);
+    say_changed(rt, b);
 }
 
-fn main() {
-    serials();
-    starts();
-    half_cycles();
-    configurations();
-    blocks();
-    cards();
+fn main(rt: HostRuntime) {
+    serials(&rt);
+    starts(&rt);
+    half_cycles(&rt);
+    configurations(&rt);
+    blocks(&rt);
+    cards(&rt);
 }

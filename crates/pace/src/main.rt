@@ -1,12 +1,14 @@
 // pace [BLOCKS [W [READS]]]: feeds one block of 4,096 samples so often, with W samples in half a cycle; then holds and reads so often; and prints
 // what a last hold tells: VA_RMS, the eight registers of IA and of IB, and the interval's number.
+#![tactic(auto)]
+
 ghost use Rattle.std.specs.Prelude.{◌≤◌};
 
 use aberzhan::{Looked, Module, Stepped};
 use address::{byte_addr, word_addr};
 use alarm::Asked;
-use libc::STDOUT_FILENO;
 use port::Reading;
+use std::rt::Env;
 use steps::Answer;
 
 // VA_RMS; the six figures and both energy counts of IA, and then of IB; by their byte addresses.
@@ -45,16 +47,15 @@ fn number_in(text: &[u8]) -> u64
 }
 
 // An argument, or what is usual where it is left out.
-fn argument(k: usize, usual: u64) -> u64
+fn argument(rt: &impl Env, k: usize, usual: u64) -> u64
     requires { usual ≤ 999999999 }
     ensures { result ≤ 999999999 }
 {
     let mut text = [0u8; 16];
-    let n = os::arg(k, &mut text);
-    if n == 0 {
-        return usual;
+    match rt.arg(k, &mut text) {
+        Ok(0) | Err(_) => usual,
+        Ok(n) => number_in(&text[..n]),
     }
-    number_in(&text[..n])
 }
 
 // The next number of the row, below 2^32.
@@ -132,11 +133,12 @@ fn fed(mut m: Module, n: u64, v: &[i32], s1: &[i32], s3: &[i32]) -> Module {
     m
 }
 
-fn print_value(x: i64) {
+// An output that takes no more is not told.
+fn print_value(rt: &impl Print, x: i64) {
     if x < 0 {
-        io::write_all(STDOUT_FILENO, b"-");
+        let _ = print!(rt; "-");
     }
-    io::print_decimal(STDOUT_FILENO, number::size(x));
+    let _ = print!(rt; "{}", number::size(x));
 }
 
 // A register's value; 0 if the read is refused.
@@ -175,42 +177,39 @@ fn reread(mut m: Module, n: u64) -> Module {
     m
 }
 
-fn print_registers(held: Module) {
+fn print_registers(rt: &impl Print, held: Module) {
     let mut k: usize = 0;
     while k < 17 {
-        print_value(told(held.read(0, byte_addr(REGISTERS[k]))));
-        io::write_all(STDOUT_FILENO, b" ");
+        print_value(rt, told(held.read(0, byte_addr(REGISTERS[k]))));
+        let _ = print!(rt; " ");
         k += 1;
     }
 }
 
-fn print_refused(n: u8) {
-    io::write_all(STDOUT_FILENO, b"REFUSED ");
-    io::print_decimal(STDOUT_FILENO, n as u64);
-    io::write_all(STDOUT_FILENO, b"\n");
+fn print_refused(rt: &impl Print, n: u8) {
+    let _ = println!(rt; "REFUSED {n}");
 }
 
 // The registers and the interval's number; without any block, why there are none.
-fn print_held(m: Module) {
+fn print_held(rt: &impl Print, m: Module) {
     let h = m.hold(0);
     let answer = h.answer;
     if let Answer::Refused(n) = answer {
-        print_refused(n);
+        print_refused(rt, n);
     } else {
-        print_registers(h.after);
-        io::print_decimal(STDOUT_FILENO, h.number as u64);
-        io::write_all(STDOUT_FILENO, b"\n");
+        print_registers(rt, h.after);
+        let _ = println!(rt; "{}", h.number);
     }
 }
 
-fn main() {
-    let blocks = argument(1, 100);
-    let w = argument(2, 40);
-    let reads = argument(3, 0);
+fn main(rt: HostRuntime) {
+    let blocks = argument(&rt, 1, 100);
+    let w = argument(&rt, 2, 40);
+    let reads = argument(&rt, 3, 0);
     let s = started(w as i64);
     let answer = s.answer;
     if let Answer::Refused(n) = answer {
-        print_refused(n);
+        print_refused(&rt, n);
         return;
     }
     let mut v = [0i32; 4096];
@@ -220,5 +219,5 @@ fn main() {
     let ready = prepared(s.after);
     let fed = fed(ready, blocks, &v, &s1, &s3);
     let m = reread(fed, reads);
-    print_held(m);
+    print_held(&rt, m);
 }

@@ -1,5 +1,7 @@
-// What the bench computer's stock program calls from C. Each function gives one signed number: the place of a card's first byte, the new
-// length, or a refusal's number negated.
+// What the bench computer's stock program calls, in C by the archive that crate stock_c makes. Each function gives one signed number: the
+// place of a card's first byte, the new length, or a refusal's number negated.
+#![tactic(auto)]
+
 pub mod read;
 
 ghost use Rattle.std.specs.Prelude.{◌≡◌, [], ◌∷◌, ◌^◌, ◌<◌};
@@ -41,16 +43,14 @@ fn changed_number(answer: Changed) -> i64
 }
 
 // The place of the first byte of the card with a serial.
-#[unsafe(no_mangle)]
-pub extern "C" fn stock_lookup(book: &[u8], serial: &[u8]) -> i64
+pub fn stock_lookup(book: &[u8], serial: &[u8]) -> i64
     ensures { result ≡ signed (lookup_of book.now serial.now) }
 {
     found_number(lookup::lookup(book, serial))
 }
 
 // Adds the card with a serial and the eight fields; the length of the new book.
-#[unsafe(no_mangle)]
-pub extern "C" fn stock_add(
+pub fn stock_add(
     buffer: &mut [u8],
     used: usize,
     serial: &[u8],
@@ -73,8 +73,7 @@ pub extern "C" fn stock_add(
 }
 
 // Withdraws a serial; the length of the new book.
-#[unsafe(no_mangle)]
-pub extern "C" fn stock_withdraw(buffer: &mut [u8], used: usize, serial: &[u8]) -> i64
+pub fn stock_withdraw(buffer: &mut [u8], used: usize, serial: &[u8]) -> i64
     ensures { (result ≡ signed (withdraw_answer buffer.old used serial.now))
         × (buffer.new ≡ after_withdraw buffer.old used serial.now) }
 {

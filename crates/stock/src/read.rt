@@ -10,32 +10,28 @@ ghost use Rattle.stock.specs.Reading.{check_answer, serial_answer, serial_text, 
 use card::Card;
 
 // Whether the bytes are a well-formed book: 0, or the refusal.
-#[unsafe(no_mangle)]
-pub extern "C" fn stock_check(book: &[u8]) -> i64
+pub fn stock_check(book: &[u8]) -> i64
     ensures { result ≡ signed (check_answer book.now) }
 {
     if book::is_book(book) { 0 } else { -2 }
 }
 
 // The place of card k, from 0; 0 where there is none.
-#[unsafe(no_mangle)]
-pub extern "C" fn stock_card(book: &[u8], k: usize) -> usize
+pub fn stock_card(book: &[u8], k: usize) -> usize
     ensures { result ≡ place_in book.now (cards book.now) k }
 {
     section::place(book, book::cards(book), k)
 }
 
 // The place of withdrawn serial k, from 0; 0 where there is none.
-#[unsafe(no_mangle)]
-pub extern "C" fn stock_withdrawn(book: &[u8], k: usize) -> usize
+pub fn stock_withdrawn(book: &[u8], k: usize) -> usize
     ensures { result ≡ place_in book.now (withdrawn book.now) k }
 {
     section::place(book, book::withdrawn(book), k)
 }
 
 // The words of a refusal's number, put at the front of a buffer: how many bytes, 0 where there are none or too little room.
-#[unsafe(no_mangle)]
-pub extern "C" fn stock_words(number: usize, buffer: &mut [u8]) -> usize
+pub fn stock_words(number: usize, buffer: &mut [u8]) -> usize
     ensures { (result ≡ written_of (words_of number) (length buffer.old))
         × (buffer.new ≡ put_within buffer.old 0 (words_of number)) }
 {
@@ -43,8 +39,7 @@ pub extern "C" fn stock_words(number: usize, buffer: &mut [u8]) -> usize
 }
 
 // The digits of the serial that an entry begins with, put at the front of a buffer: how many there are, or the refusal.
-#[unsafe(no_mangle)]
-pub extern "C" fn stock_serial(entry: &[u8], text: &mut [u8]) -> i64
+pub fn stock_serial(entry: &[u8], text: &mut [u8]) -> i64
     ensures { (result ≡ signed (serial_answer entry.now (length text.old)))
         × (text.new ≡ serial_text entry.now text.old) }
 {
@@ -77,8 +72,7 @@ fn put_fields(to: &mut [i64], fields: [i32; 8])
 }
 
 // The eight fields of the card in 37 bytes, put at the front: 8, or the refusal.
-#[unsafe(no_mangle)]
-pub extern "C" fn stock_fields(card: &[u8], fields: &mut [i64]) -> i64
+pub fn stock_fields(card: &[u8], fields: &mut [i64]) -> i64
     ensures { (result ≡ signed (fields_answer card.now (length fields.old)))
         × (fields.new ≡ fields_after card.now fields.old) }
 {
