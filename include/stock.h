@@ -30,7 +30,7 @@
  * to check: any bytes, lengths and numbers are answered. The library keeps nothing between calls, so calls on
  * different buffers may go on at the same time in several threads.
  *
- * For x86-64 with a 64-bit size_t. Link with the archive that `rt staticlib stock` makes. */
+ * For x86-64 with a 64-bit size_t. Link with the archive that `rt lib` makes in crates/stock_c. */
 #ifndef STOCK_H
 #define STOCK_H
 
