@@ -4,19 +4,19 @@
 // new one. The second file is made first, and only where it is not there yet, so that no two changes are under way at the same time.
 #![tactic(auto)]
 
+mod files;
 mod lines;
 mod list;
 mod orders;
 
-ghost use Rattle.std.specs.Prelude.{◌≤◌, length, IfOk};
+ghost use Rattle.std.specs.Prelude.{◌≤◌, length};
 
+use files::{beside, create, keep, keep_first, read_book, remove, rename};
 use lines::Line;
 use orders::Order;
 use std::env::FillError;
-use std::fs::{File, OpenFile, OpenOptions};
-use std::io::{Read, Write};
+use std::io;
 use std::rt::{Env, Files};
-use std::{fs, io};
 use typed::Value;
 
 // The eight values of a new card, or which of them, from 1, is no whole number.
@@ -91,41 +91,6 @@ fn argument_count(rt: &impl Env) -> usize {
     usize::MAX
 }
 
-// A path as text, which is how std takes it: one that is no UTF-8 is refused as a name.
-fn path_text(path: &[u8]) -> io::Result<&str> {
-    match str::from_utf8(path) {
-        Ok(text) => Ok(text),
-        Err(_) => Err(io::Error::from(io::ErrorKind::InvalidFilename)),
-    }
-}
-
-// Makes a file and opens it for writing, only where there is none of this name yet.
-fn create<R: Files>(rt: &R, path: &[u8]) -> io::Result<R::File> {
-    OpenOptions::new()
-        .write(true)
-        .create_new(true)
-        .open(rt, path_text(path)?)
-}
-
-fn rename(rt: &impl Files, from: &[u8], to: &[u8]) -> io::Result<()> {
-    fs::rename(rt, path_text(from)?, path_text(to)?)
-}
-
-fn remove(rt: &impl Files, path: &[u8]) -> io::Result<()> {
-    fs::remove_file(rt, path_text(path)?)
-}
-
-// The name of the second file: that of the book and .new. 0 where it would be too long for a name.
-fn beside(path: &[u8], name: &mut [u8; 4096]) -> usize {
-    let n = path.len();
-    if 4000 < n {
-        return 0;
-    }
-    serial::put_at(name, 0, path);
-    serial::put_at(name, n, b".new");
-    n + 4
-}
-
 // A word longer than the buffer counts as empty: it is no number, and no label either.
 fn value_at(rt: &impl Env, k: usize) -> Value {
     let mut buffer = [0u8; 4096];
@@ -192,37 +157,6 @@ fn check(rt: &(impl Print + Eprint), book: &[u8]) {
     say(rt, b"WELL FORMED\n");
 }
 
-// Reads until the buffer is full, the input ends or a read fails: how many bytes it put at the front.
-fn read_full(file: &mut impl Read, buffer: &mut [u8]) -> usize
-    ensures { result ≤ length buffer.new }
-{
-    let mut done = 0;
-    while done < buffer.len() {
-        match file.read(&mut buffer[done..]) {
-            Ok(0) | Err(_) => return done,
-            Ok(n) => done += n,
-        }
-    }
-    done
-}
-
-// Whether a file's bytes ended, or were more than there was room for, and did not stop at a read that failed: the next read tells.
-fn was_read(file: &mut impl Read) -> io::Result<()> {
-    let mut byte = [0u8; 1];
-    file.read(&mut byte)?;
-    Ok(())
-}
-
-// Reads the book, or as much of it as there is room for: how many bytes.
-fn read_book(rt: &impl Files, path: &[u8], bytes: &mut [u8; 65536]) -> io::Result<usize>
-    ensures { IfOk result (λ n. n ≤ length bytes.new) }
-{
-    let mut file = File::open(rt, path_text(path)?)?;
-    let n = read_full(&mut file, bytes);
-    was_read(&mut file)?;
-    Ok(n)
-}
-
 // The orders that only read the book.
 fn look(rt: &(impl Env + Files + Print + Eprint), order: Order, path: &[u8]) {
     let mut bytes = [0u8; 65536];
@@ -262,20 +196,6 @@ fn change(rt: &impl Env, order: Order, buffer: &mut [u8; 65536], n: usize, f: [i
         }
         _ => stock::stock_withdraw(buffer, n, &word[..m]),
     }
-}
-
-// Writes bytes to a file and to its disk.
-fn keep(file: &mut (impl Write + OpenFile), bytes: &[u8]) -> io::Result<()> {
-    file.write_all(bytes)?;
-    file.sync_all()
-}
-
-fn keep_first(file: &mut (impl Write + OpenFile), bytes: [u8; 65536], n: u64) -> io::Result<()> {
-    if n <= 65536 {
-        let end = n as usize;
-        return keep(file, &bytes[0..end]);
-    }
-    Err(io::Error::from(io::ErrorKind::InvalidInput))
 }
 
 // Reads the book, changes it and writes the new one to the second file: whether that is whole.

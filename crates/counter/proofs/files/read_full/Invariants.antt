@@ -1,6 +1,6 @@
--- `counter::read_full` ends, since each turn leaves less to fill.
+-- `counter::files::read_full` ends, since each turn leaves less to fill.
 use Rattle.std.proofs.Common.{◌≡◌, ◌-◌, ◌≤◌, ◌<◌, ◌^◌, length}
-use Rattle.counter.proofs.read_full.Given as goal
+use Rattle.counter.proofs.files.read_full.Given as goal
 
 abbrev pub invariant-loop-done : goal.invariant-loop-done
 invariant-loop-done g l = (length l.buffer ≡ length l.initial.buffer) × (l.done ≤ length l.buffer) × (length l.buffer < 2 ^ 64)
