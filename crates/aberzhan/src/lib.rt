@@ -2,23 +2,32 @@
 #![tactic(auto)]
 
 ghost use Rattle.std.specs.Prelude.{◌≡◌, length};
-ghost use Rattle.aberzhan.specs.Module.{refusal, open_of, write_of, commit_of, drop_of, hold_of, read_of, block_of, reset_of, fresh_module, start_of};
-ghost use Rattle.aberzhan.specs.Polling.{poll_of, poll_buffer};
+ghost use Rattle.steps.specs.Answers.{refused, accepted, answer_of, or_as_before};
+ghost use Rattle.aberzhan.specs.Module.{stepped, started, at_port, desk_of, held_of, with_desk, with_held};
+ghost use Rattle.aberzhan.specs.Module.{open_of, write_of, commit_of, drop_of, hold_of, read_of, block_of, reset_of, fresh_module, start_of};
+ghost use Rattle.aberzhan.specs.Module.{port_at as port_in};
+ghost use Rattle.aberzhan.specs.Polling.{held_now, poll_of, poll_buffer};
 ghost use Rattle.aberzhan.specs.Cards.{serial_if, cards_of};
-ghost use Rattle.aberzhan.specs.Inside.{is_port, desk_at, hold_at, desk_did, waits_if, committed, held, poll_answer, polled};
+ghost use Rattle.aberzhan.specs.Inside.{named, side_of, copied_now, begun_of};
 
 use address::{ByteAddr, WordAddr};
 use alarm::{Alarms, Asked, Watch};
 use card::Card;
-use desk::{Desk, Desked, Finished};
+use desk::Desk;
 use meter::Meter;
-use poll::Replied;
-use port::{Copied, Held, Reading};
+use port::Held;
+use refusal::Refusal;
 use sample::Clips;
 use serial::Serial;
-use steps::Answer;
 
-// What each step takes and hands back. volts: the last voltages that the watch has seen. Port k has the desk and the hold with its number.
+// The two ports.
+#[derive(Clone, Copy)]
+enum Port {
+    Zero,
+    One,
+}
+
+// The module. volts: the last voltages that the watch has seen. Port k has the desk and the hold with its number.
 #[derive(Clone, Copy)]
 pub struct Module {
     meter: Meter,
@@ -30,38 +39,20 @@ pub struct Module {
     hold1: Held,
 }
 
-// A step's answer, and the module after it: as it came, if the step is refused.
+// A start: whether what it asks for is in range, and the module begun, with the lowest settings where it is not.
 #[derive(Clone, Copy)]
-pub struct Stepped {
-    pub answer: Answer,
-    pub after: Module,
+pub struct Started {
+    pub answer: Result<(), Refusal>,
+    pub module: Module,
 }
 
-// What a hold returns: beside the answer the interval's number, its serial and how many of its samples were clipped, and the alarms as they are now;
-// 0 and none if it is refused.
+// What a hold returns: the interval's number, its serial and how many of its samples were clipped, and the alarms as they are now.
 #[derive(Clone, Copy)]
 pub struct Holding {
-    pub answer: Answer,
     pub number: u32,
     pub serial: Serial,
     pub clips: Clips,
     pub alarms: Alarms,
-    pub after: Module,
-}
-
-// What a read returns. The module is as it came.
-#[derive(Clone, Copy)]
-pub struct Looked {
-    pub answer: Reading,
-    pub after: Module,
-}
-
-// What a poll returns: how many bytes the reply has, 0 if it is refused.
-#[derive(Clone, Copy)]
-pub struct Polled {
-    pub answer: Answer,
-    pub length: usize,
-    pub after: Module,
 }
 
 // The serials of the card in force and of the card that waits; none where there is no such card.
@@ -77,42 +68,29 @@ fn serial_if(there: bool, c: Card) -> Serial
     if there { c.serial } else { Serial::none() }
 }
 
-// Ports are 0 and 1.
-fn is_port(port: i64) -> bool
-    ensures { result ≡ is_port port }
+// Ports are 0 and 1: 8.
+fn port_at(port: i64) -> Result<Port, Refusal>
+    ensures { answer_of result ≡ at_port (port_in port) (refused 8) (λ p. accepted (named p)) }
 {
-    (0 <= port) & (port <= 1)
-}
-
-// The card waits; where its desk refused, the meter is as it came.
-fn waits_if(answer: Answer, c: Card, m: Meter) -> Meter
-    ensures { result ≡ waits_if answer c m }
-{
-    match answer {
-        Answer::Done => m.wait(c),
-        Answer::Refused(_) => m,
+    if port == 0 {
+        return Ok(Port::Zero);
     }
-}
-
-// A reply that does not fit is refused.
-fn poll_answer(fits: bool) -> Answer
-    ensures { result ≡ poll_answer fits }
-{
-    if fits {
-        return Answer::Done;
+    if port == 1 {
+        return Ok(Port::One);
     }
-    Answer::Refused(21)
+    Err(Refusal::NoPort)
 }
 
+// Each step answers, or is refused and leaves the module as it came.
 impl Module {
     // No voltage has come, no port is open, nothing is held.
-    fn fresh(m: Meter, watch: Watch) -> Module
-        ensures { result ≡ fresh_module m watch }
+    fn fresh(meter: Meter, watch: Watch) -> Module
+        ensures { result ≡ fresh_module meter watch }
     {
         let shut = Desk::shut();
         let nothing = Held::nothing();
         Module {
-            meter: m,
+            meter,
             watch,
             volts: [0; 512],
             desk0: shut,
@@ -122,266 +100,184 @@ impl Module {
         }
     }
 
+    // A module with these settings: 7.
+    fn begun(
+        n: i64,
+        b: i64,
+        track: [WordAddr; 6],
+        asked: Asked,
+        config: i64,
+    ) -> Result<Module, Refusal>
+        ensures { answer_of result ≡ begun_of n b track asked config }
+    {
+        let meter = meter::start(n, b, track, config)?;
+        let watch = alarm::start(asked)?;
+        Ok(Module::fresh(meter, watch))
+    }
+
     // A start with N, B, the six words to track, what is asked of the watch, and the board's configuration: 7.
-    pub fn start(n: i64, b: i64, track: [WordAddr; 6], asked: Asked, config: i64) -> Stepped
-        ensures { result ≡ start_of n b track asked config }
+    pub fn start(n: i64, b: i64, track: [WordAddr; 6], asked: Asked, config: i64) -> Started
+        ensures { started result ≡ start_of n b track asked config }
     {
-        let r = meter::start(n, b, track, config);
-        let w = alarm::start(asked);
-        if r.ok & w.ok {
-            let after = Module::fresh(r.meter, w.watch);
-            return Stepped {
-                answer: Answer::Done,
-                after,
-            };
-        }
-        let m = meter::lowest();
-        let watch = alarm::lowest();
-        let after = Module::fresh(m, watch);
-        Stepped {
-            answer: Answer::Refused(7),
-            after,
+        match Module::begun(n, b, track, asked, config) {
+            Ok(module) => Started {
+                answer: Ok(()),
+                module,
+            },
+            Err(refusal) => Started {
+                answer: Err(refusal),
+                module: Module::fresh(meter::lowest(), alarm::lowest()),
+            },
         }
     }
 
-    fn desk(self, port: i64) -> Desk
-        ensures { result ≡ desk_at self port }
+    fn desk(&self, port: Port) -> Desk
+        ensures { result ≡ desk_of self.now (side_of port) }
     {
-        if port < 1 { self.desk0 } else { self.desk1 }
-    }
-
-    fn held(self, port: i64) -> Held
-        ensures { result ≡ hold_at self port }
-    {
-        if port < 1 { self.hold0 } else { self.hold1 }
-    }
-
-    // Document 01's number, and the module as it came.
-    fn refused(self, number: u8) -> Stepped
-        ensures { result ≡ refusal number self }
-    {
-        Stepped {
-            answer: Answer::Refused(number),
-            after: self,
+        match port {
+            Port::Zero => self.desk0,
+            Port::One => self.desk1,
         }
     }
 
-    // What was done at a port's desk; a desk that refused is as it came.
-    fn at_desk(mut self, port: i64, did: Desked) -> Stepped
-        ensures { result ≡ desk_did self port did }
+    fn put_desk(&mut self, port: Port, desk: Desk)
+        ensures { self.new ≡ with_desk (side_of port) desk self.old }
     {
-        let answer = did.answer;
-        let d = did.after;
-        if port < 1 {
-            self.desk0 = d;
-        } else {
-            self.desk1 = d;
+        match port {
+            Port::Zero => self.desk0 = desk,
+            Port::One => self.desk1 = desk,
         }
-        Stepped {
-            answer,
-            after: self,
+    }
+
+    fn held(&self, port: Port) -> Held
+        ensures { result ≡ held_of self.now (side_of port) }
+    {
+        match port {
+            Port::Zero => self.hold0,
+            Port::One => self.hold1,
+        }
+    }
+
+    fn put_held(&mut self, port: Port, held: Held)
+        ensures { self.new ≡ with_held (side_of port) held self.old }
+    {
+        match port {
+            Port::Zero => self.hold0 = held,
+            Port::One => self.hold1 = held,
         }
     }
 
     // Open with a serial: 8, 9, 1.
-    pub fn open(self, port: i64, serial: &[u8]) -> Stepped
-        ensures { result ≡ open_of self port serial.now }
+    pub fn open(&mut self, port: i64, serial: &[u8]) -> Result<(), Refusal>
+        ensures { stepped result self.new ≡ open_of self.old port serial.now }
     {
-        if is_port(port) {
-            let d = self.desk(port);
-            let begun = d.open_with(serial);
-            return self.at_desk(port, begun);
-        }
-        self.refused(8)
+        let port = port_at(port)?;
+        let desk = self.desk(port).open_with(serial)?;
+        self.put_desk(port, desk);
+        Ok(())
     }
 
     // Write field, value: 8, 10, 11, 12.
-    pub fn write(self, port: i64, field: i64, value: i64) -> Stepped
-        ensures { result ≡ write_of self port field value }
+    pub fn write(&mut self, port: i64, field: i64, value: i64) -> Result<(), Refusal>
+        ensures { stepped result self.new ≡ write_of self.old port field value }
     {
-        if is_port(port) {
-            let d = self.desk(port);
-            let written = d.write_field(field, value);
-            return self.at_desk(port, written);
-        }
-        self.refused(8)
+        let port = port_at(port)?;
+        let desk = self.desk(port).write_field(field, value)?;
+        self.put_desk(port, desk);
+        Ok(())
     }
 
-    // The card waits, and the desk is shut; or neither, where the desk refused.
-    fn commit_of(mut self, port: i64, done: Finished) -> Stepped
-        ensures { result ≡ committed self port done }
+    // Commit: 8, 10, 13. The card waits, and the desk is shut.
+    pub fn commit(&mut self, port: i64) -> Result<(), Refusal>
+        ensures { stepped result self.new ≡ commit_of self.old port }
     {
-        let answer = done.answer;
-        let waiting = waits_if(answer, done.card, self.meter);
-        self.meter = waiting;
-        let after = done.after;
-        let left = Desked { answer, after };
-        self.at_desk(port, left)
-    }
-
-    // Commit: 8, 10, 13.
-    pub fn commit(self, port: i64) -> Stepped
-        ensures { result ≡ commit_of self port }
-    {
-        if is_port(port) {
-            let d = self.desk(port);
-            let finished = d.finish();
-            return self.commit_of(port, finished);
-        }
-        self.refused(8)
+        let port = port_at(port)?;
+        let (card, desk) = self.desk(port).finish()?;
+        self.put_desk(port, desk);
+        self.meter = self.meter.wait(card);
+        Ok(())
     }
 
     // Drop: 8, 10.
-    pub fn drop(self, port: i64) -> Stepped
-        ensures { result ≡ drop_of self port }
+    pub fn drop(&mut self, port: i64) -> Result<(), Refusal>
+        ensures { stepped result self.new ≡ drop_of self.old port }
     {
-        if is_port(port) {
-            let d = self.desk(port);
-            let dropped = d.drop_card();
-            return self.at_desk(port, dropped);
-        }
-        self.refused(8)
+        let port = port_at(port)?;
+        let desk = self.desk(port).drop_card()?;
+        self.put_desk(port, desk);
+        Ok(())
     }
 
-    // The port has a new hold; or its old one, where nothing was copied.
-    fn hold_of(mut self, port: i64, c: Copied) -> Holding
-        ensures { result ≡ held self port c }
+    // All registers as they stood at the last close: 14.
+    fn copied(&self) -> Result<Held, Refusal>
+        ensures { answer_of result ≡ copied_now self.now }
     {
-        let answer = c.answer;
-        let serial = c.held.closed.serial;
-        let clips = c.held.closed.clips;
-        let h = c.held;
-        let mut alarms = Alarms {
-            sag: false,
-            surge: false,
-        };
-        if h.any {
-            alarms = self.watch.alarms;
-            if port < 1 {
-                self.hold0 = h;
-            } else {
-                self.hold1 = h;
-            }
-        }
-        Holding {
-            answer,
-            number: c.held.closed.number,
-            serial,
-            clips,
-            alarms,
-            after: self,
-        }
+        let work = self.meter.work;
+        Held::copy(work.any, work.last, work.settings.track)
     }
 
-    // Hold: 8, 14. Copies all registers as they stood at the last close.
-    pub fn hold(self, port: i64) -> Holding
-        ensures { result ≡ hold_of self port }
+    // Hold: 8, 14. The port has a new hold.
+    pub fn hold(&mut self, port: i64) -> Result<Holding, Refusal>
+        ensures { stepped result self.new ≡ hold_of self.old port }
     {
-        if is_port(port) {
-            let track = self.meter.work.settings.track;
-            let copied = Held::copy(self.meter.work.any, self.meter.work.last, track);
-            return self.hold_of(port, copied);
-        }
-        let none = Serial::none();
-        Holding {
-            answer: Answer::Refused(8),
-            number: 0,
-            serial: none,
-            clips: Clips::unclipped(),
-            alarms: Alarms {
-                sag: false,
-                surge: false,
-            },
-            after: self,
-        }
+        let port = port_at(port)?;
+        let held = self.copied()?;
+        self.put_held(port, held);
+        Ok(Holding {
+            number: held.closed.number,
+            serial: held.closed.serial,
+            clips: held.closed.clips,
+            alarms: self.watch.alarms,
+        })
     }
 
     // Read byte address: 8, 15, 16, 17.
-    pub fn read(self, port: i64, address: ByteAddr) -> Looked
-        ensures { result ≡ read_of self port address }
+    pub fn read(&self, port: i64, address: ByteAddr) -> Result<i64, Refusal>
+        ensures { answer_of result ≡ read_of self.now port address }
     {
-        let mut answer = Reading::Refused(8);
-        if is_port(port) {
-            let h = self.held(port);
-            answer = h.look(address);
-        }
-        Looked {
-            answer,
-            after: self,
-        }
+        let port = port_at(port)?;
+        self.held(port).look(address)
     }
 
-    // Where registers were sent, their hold is port 1's.
-    fn poll_of(mut self, own: Held, r: Replied) -> Polled
-        ensures { result ≡ polled self own r }
+    // Poll: 21. A packet of the serial line, answered from a hold of its own; the reply is put at the front of the buffer, and its length is the
+    // answer. Where registers were sent, their hold is port 1's.
+    pub fn poll(&mut self, packet: &[u8], out: &mut [u8]) -> Result<usize, Refusal>
+        ensures { (stepped result self.new ≡ poll_of self.old packet.now (length out.old))
+            × (out.new ≡ poll_buffer self.old packet.now out.old) }
     {
-        let answer = poll_answer(r.fits);
-        if r.sends {
+        let own = self.copied().unwrap_or(Held::nothing());
+        let replied = poll::answer(own, packet, out).ok_or(Refusal::NoRoom)?;
+        if replied.sends {
             self.hold1 = own;
-            return Polled {
-                answer,
-                length: r.length,
-                after: self,
-            };
         }
-        Polled {
-            answer,
-            length: r.length,
-            after: self,
-        }
-    }
-
-    // Poll: 21. A packet of the serial line, answered from a hold of its own; the reply is put at the front of the buffer.
-    pub fn poll(self, packet: &[u8], out: &mut [u8]) -> Polled
-        ensures { (result ≡ poll_of self packet.now (length out.old))
-            × (out.new ≡ poll_buffer self packet.now out.old) }
-    {
-        let track = self.meter.work.settings.track;
-        let taken = Held::copy(self.meter.work.any, self.meter.work.last, track);
-        let own = taken.held;
-        let replied = poll::answer(own, packet, out);
-        self.poll_of(own, replied)
+        Ok(replied.length)
     }
 
     // A block of samples, voltage and both inputs: 5, 6, 18.
-    pub fn block(mut self, v: &[i32], s1: &[i32], s3: &[i32]) -> Stepped
-        ensures { result ≡ block_of self v.now s1.now s3.now }
+    pub fn block(&mut self, v: &[i32], s1: &[i32], s3: &[i32]) -> Result<(), Refusal>
+        ensures { stepped result self.new ≡ block_of self.old v.now s1.now s3.now }
     {
-        let m = self.meter;
-        let a = self.watch;
-        let r = m.block(a, &mut self.volts, v, s1, s3);
-        let said = r.answer;
-        let after = r.after;
-        let watch = r.watch;
-        self.meter = after;
-        self.watch = watch;
-        Stepped {
-            answer: said,
-            after: self,
-        }
+        let fed = self.meter.block(self.watch, &mut self.volts, v, s1, s3)?;
+        self.meter = fed.meter;
+        self.watch = fed.watch;
+        Ok(())
     }
 
     // Reset: 12. Clears the alarms that the mask names.
-    pub fn reset(mut self, mask: i64) -> Stepped
-        ensures { result ≡ reset_of self mask }
+    pub fn reset(&mut self, mask: i64) -> Result<(), Refusal>
+        ensures { stepped result self.new ≡ reset_of self.old mask }
     {
-        let a = self.watch;
-        let r = a.reset(mask);
-        let answer = r.answer;
-        let watch = r.after;
-        self.watch = watch;
-        Stepped {
-            answer,
-            after: self,
-        }
+        self.watch = self.watch.reset(mask)?;
+        Ok(())
     }
 
     // Which cards it has.
-    pub fn cards(self) -> Cards
-        ensures { result ≡ cards_of self }
+    pub fn cards(&self) -> Cards
+        ensures { result ≡ cards_of self.now }
     {
-        let force = serial_if(self.meter.forced, self.meter.force);
-        let waiting = serial_if(self.meter.waits, self.meter.waiting);
-        Cards { force, waiting }
+        Cards {
+            force: serial_if(self.meter.forced, self.meter.force),
+            waiting: serial_if(self.meter.waits, self.meter.waiting),
+        }
     }
 }

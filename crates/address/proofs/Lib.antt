@@ -1,4 +1,5 @@
 -- Laws of addresses.
 pub mod Places
+pub mod Rows
 pub mod Slots
 pub mod Decided

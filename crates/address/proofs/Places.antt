@@ -1,69 +1,45 @@
--- The place of the first element that is sought.
-use Prim.Native.Nat.{ℕ, zero, suc, ◌*◌, ◌≤◌, ◌<◌, zero-le, suc-le-suc}
-use mathlib.Core.Path.{◌≡◌, refl, sym, ◌∙◌}
-use mathlib.Core.List.{List, [], ◌∷◌, map}
-use native.Mathlib.Nat.{le_of_suc-le-suc, not-suc-le-zero}
-use lib.ListN.{length, get_or, get_or-append}
-use borrow.Author.Tests.{eq-eqb, ne_eqb}
-use native.Mathlib.Omega.{arith}
-use mathlib.Core.Bool.{true, false}
-use lib.IntN.{ℤ, pos, negsuc, nat_abs}
-use lib.Signed.{lt_z, le_z}
-use borrow.Author.Tests.{leb-true}
-use Rattle.number.proofs.Signed.{lt_z_true, lt_z_false}
-use Rattle.address.specs.Addresses.{position, trackable, untracked, words, rows, byte_addr, word_addr}
+-- The row of a table that a search finds, and numbers as addresses.
+use Rattle.std.proofs.Common.{ℕ, ◌*◌, ◌<◌, ◌≡◌, refl, sym, ap, Bool, cond, eqb, Option, Result, Ok, Err, List, map, length, ℤ, pos, negsuc, arith}
+use Rattle.std.specs.Result.{OkIff, result_unwrap_or}
+use Rattle.std.specs.Int.{FitsUnsignedBits}
+use Rattle.std.specs.List.{position_or_len}
+use Rattle.std.proofs.lemmas.List.Recursion.{is_position_or_len}
+use Rattle.std.proofs.lemmas.Bool.{lt-leb, le-leb}
+use lib.IntN.{nat_abs}
+use Rattle.address.specs.Addresses.{position, row_in, words, rows, byte_of, place_of, register_of, trackable, untracked, byte_addr, word_addr}
 
-pub position_at : (w : ℕ) (xs : List ℕ) (k : ℕ) → k < length xs → ((j : ℕ) → j < k → get_or xs j 0 ≡ w → ⊥) → get_or xs k 0 ≡ w → position w xs ≡ k
+-- the place of a number in a table, as std counts it
+position_is : (w : ℕ) (xs : List ℕ) → position w xs ≡ position_or_len (λ y. eqb y w) xs
 unfolding position
-position_at w [] k l h e = absurd (not-suc-le-zero l)
-position_at w (x ∷ xs) zero l h e = rw (eq-eqb x w e)
-position_at w (x ∷ xs) (suc k) l h e =
-    rw (ne_eqb x w (h 0 (suc-le-suc zero-le)), position_at w xs k (le_of_suc-le-suc l) (λ j m. h (suc j) (suc-le-suc m)) e)
+position_is w xs = is_position_or_len (position w) (λ y. eqb y w) refl (λ x xs. ap (cond (eqb x w) 0) (omega arith)) xs
 
-pub position_none : (w : ℕ) (xs : List ℕ) → ((j : ℕ) → j < length xs → get_or xs j 0 ≡ w → ⊥) → position w xs ≡ length xs
+thrice_is : (b : ℕ) (xs : List ℕ) → position b (map (λ w. 3 * w) xs) ≡ position_or_len (λ y. eqb (3 * y) b) xs
 unfolding position
-position_none w [] h = refl
-position_none w (x ∷ xs) h = rw (ne_eqb x w (h 0 (suc-le-suc zero-le)), position_none w xs (λ j m. h (suc j) (suc-le-suc m)))
+thrice_is b xs = is_position_or_len (λ l. position b (map (λ w. 3 * w) l)) (λ y. eqb (3 * y) b) refl (λ x xs. ap (cond (eqb (3 * x) b) 0) (omega arith)) xs
 
--- ---- the table
-pub first_seven : (k : ℕ) → k < 7 → get_or trackable k 0 ≡ get_or words k 0
-unfolding words trackable
-first_seven k h = sym (get_or-append trackable untracked 0 k h)
+-- what std's search of a list is, as a row of the table
+abbrev pub found : (ℕ → Bool) → List ℕ → Option ℕ
+found test xs = row_in (length xs) (position_or_len test xs)
 
--- what none of the first words is, none of the first seven is
-pub seven_not : (w k : ℕ) → k ≤ 7 → ((j : ℕ) → j < k → get_or words j 0 ≡ w → ⊥) → (j : ℕ) → j < k → get_or trackable j 0 ≡ w → ⊥
-seven_not w k h f j l e = f j l (sym (first_seven j (omega arith)) ∙ e)
+pub word_found : (w : ℕ) → found (λ y. eqb y w) trackable ≡ row_in 7 (place_of (record { 0 = w }))
+unfolding place_of trackable
+word_found w = ap (row_in 7) (sym (position_is w trackable))
 
-pub bytes_long : length (map (λ (w : ℕ). 3 * w) words) ≡ rows
-unfolding words trackable untracked
-bytes_long = refl
+pub byte_found : (b : ℕ) → found (λ y. eqb (3 * y) b) words ≡ row_in rows (register_of (record { 0 = b }))
+unfolding register_of byte_of words trackable untracked
+byte_found b = ap (row_in rows) (sym (thrice_is b words))
 
 -- ---- numbers as addresses
-pub byte_below : (x : ℤ) → lt_z x (pos 0) ≡ true → record { 0 = 18446744073709551615 } ≡ byte_addr x
+pub byte_at : {E : Type 0} (x : ℤ) (r : Result ℕ E) → OkIff r (FitsUnsignedBits 64 x) (nat_abs x) → nat_abs x < 18446744073709551616 → record { 0 = result_unwrap_or r 18446744073709551615 } ≡ byte_addr x
 unfolding byte_addr
-byte_below (pos n) e = absurd (omega (arith, lt_z_true (pos n) (pos 0) e))
-byte_below (negsuc n) e = refl
+byte_at (pos n) (Ok m) h l = rw h.1
+byte_at (pos n) (Err e) h l = absurd (h l)
+byte_at (negsuc n) (Ok m) h l = absurd h.0
+byte_at (negsuc n) (Err e) h l = refl
 
-pub byte_above : (x : ℤ) → lt_z x (pos 0) ≡ false → record { 0 = nat_abs x } ≡ byte_addr x
-unfolding byte_addr
-byte_above (pos n) e = refl
-byte_above (negsuc n) e = absurd (omega (arith, lt_z_false (negsuc n) (pos 0) e))
-
-pub word_below : (x : ℤ) → lt_z x (pos 0) ≡ true → record { 0 = 4294967295 } ≡ word_addr x
+pub word_at : {E : Type 0} (x : ℤ) (r : Result ℕ E) → OkIff r (FitsUnsignedBits 32 x) (nat_abs x) → record { 0 = result_unwrap_or r 4294967295 } ≡ word_addr x
 unfolding word_addr
-word_below (pos n) e = absurd (omega (arith, lt_z_true (pos n) (pos 0) e))
-word_below (negsuc n) e = refl
-
-pub word_in : (x : ℤ) → lt_z x (pos 0) ≡ false → le_z x (pos 4294967295) ≡ true → record { 0 = nat_abs x } ≡ word_addr x
-unfolding word_addr
-word_in (pos n) e h = rw h refl
-word_in (negsuc n) e h = absurd (omega (arith, lt_z_false (negsuc n) (pos 0) e))
-
-pub word_beyond : (x : ℤ) → lt_z x (pos 0) ≡ false → le_z x (pos 4294967295) ≡ false → record { 0 = 4294967295 } ≡ word_addr x
-unfolding word_addr
-word_beyond (pos n) e h = rw h refl
-word_beyond (negsuc n) e h = absurd (omega (arith, lt_z_false (negsuc n) (pos 0) e))
-
-pub word_fits : (x : ℤ) → le_z x (pos 4294967295) ≡ true → lt_z x (pos 0) ≡ false → nat_abs x ≤ 4294967295
-word_fits (pos n) e h = leb-true n 4294967295 e
-word_fits (negsuc n) e h = absurd (omega (arith, lt_z_false (negsuc n) (pos 0) h))
+word_at (pos n) (Ok m) h = rw (h.1, le-leb n 4294967295 (omega (arith, h.0)))
+word_at (pos n) (Err e) h = rw (lt-leb n 4294967295 (omega (arith, h)))
+word_at (negsuc n) (Ok m) h = absurd h.0
+word_at (negsuc n) (Err e) h = refl

@@ -1,5 +1,5 @@
 -- The register table, and its two kinds of address: byte is three times word.
-use Rattle.std.specs.Prelude.{ℕ, suc, ◌*◌, cond, List, [], ◌∷◌, ◌++◌, map, eqb, leb, ℤ, pos, negsuc}
+use Rattle.std.specs.Prelude.{ℕ, suc, ◌*◌, cond, Option, Some, None, List, [], ◌∷◌, ◌++◌, map, eqb, leb, ltb, ℤ, pos, negsuc}
 use Rattle.address.specs.declared.WordAddr.{WordAddr}
 use Rattle.address.specs.declared.ByteAddr.{ByteAddr}
 
@@ -39,6 +39,10 @@ place_of w = position w.0 trackable
 -- where a byte address stands in the table, or `rows`
 unfoldable pub register_of : ByteAddr → ℕ
 register_of a = position a.0 (map (λ (w : ℕ). (byte_of (record { 0 = w })).0) words)
+
+-- a place as the row of a table of so many rows; behind its last row there is none
+abbrev pub row_in : ℕ → ℕ → Option ℕ
+row_in n k = cond (ltb k n) (Some k) None
 
 -- a number as an address; one that no address can be stands for the greatest, which no register has
 unfoldable pub word_addr : ℤ → WordAddr

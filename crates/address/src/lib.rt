@@ -2,13 +2,13 @@
 #![tactic(auto)]
 
 ghost use Rattle.std.specs.Prelude.{◌≡◌};
-ghost use Rattle.address.specs.Addresses.{byte_of, place_of, register_of, word_addr, byte_addr};
+ghost use Rattle.address.specs.Addresses.{row_in, rows, byte_of, place_of, register_of, word_addr, byte_addr};
 ghost use Rattle.address.specs.Slots.{slot_ok, every_slot};
 
-#[derive(Clone, Copy)]
+#[derive(Clone, Copy, Debug, PartialEq, Eq)]
 pub struct WordAddr(pub u32);
 
-#[derive(Clone, Copy)]
+#[derive(Clone, Copy, Debug, PartialEq, Eq)]
 pub struct ByteAddr(pub u64);
 
 // How many registers the table has.
@@ -26,80 +26,43 @@ pub fn byte_of(w: WordAddr) -> ByteAddr
     ByteAddr(3 * w.0 as u64)
 }
 
-// Where a word stands among the seven that can be tracked, or 7.
-pub fn place_of(w: WordAddr) -> usize
-    ensures { result ≡ place_of w }
+// Where a word stands among the seven that can be tracked.
+pub fn place_of(w: WordAddr) -> Option<usize>
+    ensures { result ≡ row_in 7 (place_of w) }
 {
-    let x = w.0;
-    let mut k: usize = 0;
-    while k < 7 {
-        if WORDS[k] == x {
-            return k;
-        }
-        k += 1;
-    }
-    7
+    WORDS[..7].iter().position(|x| *x == w.0)
 }
 
-// Where a byte address stands in the table, or ROWS.
-pub fn register_of(a: ByteAddr) -> usize
-    ensures { result ≡ register_of a }
+// Where a byte address stands in the table.
+pub fn register_of(a: ByteAddr) -> Option<usize>
+    ensures { result ≡ row_in rows (register_of a) }
 {
-    let x = a.0;
-    let mut k: usize = 0;
-    while k < ROWS {
-        let b = byte_of(WordAddr(WORDS[k]));
-        if b.0 == x {
-            return k;
-        }
-        k += 1;
-    }
-    ROWS
+    WORDS.iter().position(|x| byte_of(WordAddr(*x)) == a)
 }
 
 // A number as a word address.
 pub fn word_addr(x: i64) -> WordAddr
     ensures { result ≡ word_addr x }
 {
-    if x < 0 {
-        return WordAddr(4294967295);
-    }
-    if x <= 4294967295 {
-        WordAddr(x as u32)
-    } else {
-        WordAddr(4294967295)
-    }
+    WordAddr(u32::try_from(x).unwrap_or(u32::MAX))
 }
 
 // A number as a byte address.
 pub fn byte_addr(x: i64) -> ByteAddr
     ensures { result ≡ byte_addr x }
 {
-    if x < 0 {
-        return ByteAddr(18446744073709551615);
-    }
-    ByteAddr(x as u64)
+    ByteAddr(u64::try_from(x).unwrap_or(u64::MAX))
 }
 
 // Whether a slot is off or names a register that can be tracked.
 fn slot_ok(w: WordAddr) -> bool
     ensures { result ≡ slot_ok w }
 {
-    let x = w.0;
-    let p = place_of(w);
-    (x == 0) | (p < 7)
+    w == WordAddr(0) || place_of(w).is_some()
 }
 
 pub fn all_slots(track: [WordAddr; 6]) -> bool
     ensures { result ≡ every_slot track }
 {
-    let mut k: usize = 0;
-    while k < 6 {
-        if slot_ok(track[k]) {
-            k += 1;
-        } else {
-            return false;
-        }
-    }
-    true
+    track.iter().all(|w| slot_ok(*w))
 }

@@ -1,14 +1,12 @@
 -- The last W corrected voltages, the sum of their squares, and the two alarms, sample by sample; and a reset.
 use Rattle.std.specs.Prelude.{ℕ, suc, ◌+◌, ◌-◌, ◌*◌, min, Bool, not, cond, ◌&&◌, ◌||◌, List, eqb, leb, ltb, ℤ, pos, get_or, set}
 use Rattle.steps.specs.Answers.{OrRefusal, refused, accepted}
-use Rattle.steps.specs.declared.Answer.TheVariants.{Done, Refused}
 use Rattle.number.specs.Sign.{square_of}
 use Rattle.card.specs.declared.Card.{Card}
 use Rattle.sample.specs.Sample.{voltage}
 use Rattle.alarm.specs.declared.Alarms.{Alarms}
 use Rattle.alarm.specs.declared.Limits.{Limits}
 use Rattle.alarm.specs.declared.Watch.{Watch}
-use Rattle.alarm.specs.declared.Reset.{Reset}
 use Rattle.alarm.specs.Masks.{only_alarms, named_by}
 
 -- the watch, and the places of the voltages: of 512 the first W are used, in turn
@@ -80,11 +78,3 @@ cleared_of named a = record {
 -- 12: another bit
 unfoldable pub clearing : Watch → ℤ → OrRefusal Watch
 clearing a mask = cond (only_alarms mask) (accepted (cleared_of (named_by mask) a)) (refused 12)
-
--- document 01's number for each answer, and the watch afterwards: as it came, if refused
-abbrev pub answered : Watch → OrRefusal Watch → Reset
-answered a (refused n) = record { answer = Refused n; after = a }
-answered a (accepted b) = record { answer = Done; after = b }
-
-unfoldable pub reset_of : Watch → ℤ → Reset
-reset_of a mask = answered a (clearing a mask)

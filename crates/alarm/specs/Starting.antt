@@ -1,10 +1,10 @@
 -- The start of the watch: W 1 to 512, VSAG and VSURGE 0 to 8,388,607, and a mask of alarms that stay set.
-use Rattle.std.specs.Prelude.{Bool, true, false, cond, ◌&&◌, List, ℤ, pos, nat_abs, replicate}
+use Rattle.std.specs.Prelude.{Bool, cond, ◌&&◌, List, ℤ, pos, nat_abs, replicate}
 use Rattle.std.specs.Int.Signed.{le_z}
+use Rattle.steps.specs.Answers.{OrRefusal, refused, accepted}
 use Rattle.alarm.specs.declared.Asked.{Asked}
 use Rattle.alarm.specs.declared.Limits.{Limits}
 use Rattle.alarm.specs.declared.Watch.{Watch}
-use Rattle.alarm.specs.declared.Started.{Started}
 use Rattle.alarm.specs.Masks.{only_alarms, no_alarms, named_by}
 
 unfoldable pub numbers_ok : ℤ → ℤ → ℤ → Bool
@@ -31,8 +31,9 @@ lowest_limits = record { w = 1; vsag = 0; vsurge = 0; sticky = no_alarms }
 abbrev pub lowest_watch : Watch
 lowest_watch = fresh_watch lowest_limits
 
-unfoldable pub start_of : Asked → Started
-start_of q = cond (asked_ok q) (record { ok = true; watch = fresh_watch (limits_in q) }) (record { ok = false; watch = lowest_watch })
+-- 7: out of range
+unfoldable pub starting : Asked → OrRefusal Watch
+starting q = cond (asked_ok q) (accepted (fresh_watch (limits_in q))) (refused 7)
 
 -- no voltage has come
 abbrev pub no_volts : List ℤ

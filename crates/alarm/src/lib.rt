@@ -2,11 +2,12 @@
 #![tactic(auto)]
 
 ghost use Rattle.std.specs.Prelude.{◌≡◌, true};
+ghost use Rattle.steps.specs.Answers.{answer_of};
 ghost use Rattle.alarm.specs.Masks.{only_alarms, named_by};
-ghost use Rattle.alarm.specs.Alarms.{reset_of};
-ghost use Rattle.alarm.specs.Starting.{numbers_ok, limits_of, fresh_watch, lowest_watch, start_of};
+ghost use Rattle.alarm.specs.Alarms.{clearing};
+ghost use Rattle.alarm.specs.Starting.{asked_ok, limits_in, fresh_watch, lowest_watch, starting};
 
-use steps::Answer;
+use refusal::Refusal;
 
 // A set of the two alarms: those that are set, those that stay set, those that a reset names.
 #[derive(Clone, Copy)]
@@ -42,20 +43,6 @@ pub struct Watch {
     pub seen: u32,
     pub sum: u64,
     pub alarms: Alarms,
-}
-
-// What a start makes of what is asked; at its lowest where that is out of range.
-#[derive(Clone, Copy)]
-pub struct Started {
-    pub ok: bool,
-    pub watch: Watch,
-}
-
-// What a reset answers, and the watch after it: as it came, if refused.
-#[derive(Clone, Copy)]
-pub struct Reset {
-    pub answer: Answer,
-    pub after: Watch,
 }
 
 // Not below 0, and no bit but 21, VA_SAG, and 9, VA_SURGE.
@@ -108,64 +95,56 @@ pub fn lowest() -> Watch
     })
 }
 
-// Whether W and both levels are in range.
-fn in_limits(w: i64, vsag: i64, vsurge: i64) -> bool
-    ensures { result ≡ numbers_ok w vsag vsurge }
-{
-    (1 <= w) & (w <= 512) & (0 <= vsag) & (vsag <= 8388607) & (0 <= vsurge) & (vsurge <= 8388607)
-}
+impl Asked {
+    // Whether W and both levels are in range, and the mask names alarms alone.
+    fn ok(self) -> bool
+        ensures { result ≡ asked_ok self }
+    {
+        (1 <= self.w)
+            & (self.w <= 512)
+            & (0 <= self.vsag)
+            & (self.vsag <= 8388607)
+            & (0 <= self.vsurge)
+            & (self.vsurge <= 8388607)
+            & only_alarms(self.sticky)
+    }
 
-fn limits_of(w: i64, vsag: i64, vsurge: i64, sticky: i64) -> Limits
-    requires { numbers_ok w vsag vsurge ≡ true }
-    ensures { result ≡ limits_of w vsag vsurge sticky }
-{
-    let named = named_by(sticky);
-    Limits {
-        w: w as u32,
-        vsag: vsag as u32,
-        vsurge: vsurge as u32,
-        sticky: named,
+    fn limits(self) -> Limits
+        requires { asked_ok self ≡ true }
+        ensures { result ≡ limits_in self }
+    {
+        Limits {
+            w: self.w as u32,
+            vsag: self.vsag as u32,
+            vsurge: self.vsurge as u32,
+            sticky: named_by(self.sticky),
+        }
     }
 }
 
-// A start with what is asked for.
-pub fn start(asked: Asked) -> Started
-    ensures { result ≡ start_of asked }
+// A start with what is asked for: 7.
+pub fn start(asked: Asked) -> Result<Watch, Refusal>
+    ensures { answer_of result ≡ starting asked }
 {
-    let w = asked.w;
-    let vsag = asked.vsag;
-    let vsurge = asked.vsurge;
-    let sticky = asked.sticky;
-    let mask = only_alarms(sticky);
-    if in_limits(w, vsag, vsurge) & mask {
-        let limits = limits_of(w, vsag, vsurge, sticky);
-        let watch = fresh(limits);
-        return Started { ok: true, watch };
+    if asked.ok() {
+        return Ok(fresh(asked.limits()));
     }
-    let watch = lowest();
-    Started { ok: false, watch }
+    Err(Refusal::StartRange)
 }
 
 impl Watch {
     // Clears the alarms that the mask names: 12.
-    pub fn reset(mut self, mask: i64) -> Reset
-        ensures { result ≡ reset_of self mask }
+    pub fn reset(mut self, mask: i64) -> Result<Watch, Refusal>
+        ensures { answer_of result ≡ clearing self mask }
     {
-        if only_alarms(mask) {
-            let named = named_by(mask);
-            let alarms = Alarms {
-                sag: self.alarms.sag & !named.sag,
-                surge: self.alarms.surge & !named.surge,
-            };
-            self.alarms = alarms;
-            return Reset {
-                answer: Answer::Done,
-                after: self,
-            };
+        if !only_alarms(mask) {
+            return Err(Refusal::ValueRange);
         }
-        Reset {
-            answer: Answer::Refused(12),
-            after: self,
-        }
+        let named = named_by(mask);
+        self.alarms = Alarms {
+            sag: self.alarms.sag & !named.sag,
+            surge: self.alarms.surge & !named.surge,
+        };
+        Ok(self)
     }
 }

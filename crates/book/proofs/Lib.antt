@@ -1,3 +1,4 @@
 -- Laws of the book's definitions.
 pub mod Sections
+pub mod Answers
 pub mod Decided

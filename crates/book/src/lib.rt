@@ -6,14 +6,18 @@ ghost use Rattle.book.specs.Book.{count_at, cards, withdrawn, sized, well_formed
 
 use section::{Kind, Section};
 
+// How many cards and how many withdrawn serials a book holds at most.
+pub const MOST_CARDS: usize = 1024;
+
+pub const MOST_WITHDRAWN: usize = 512;
+
 // The count in two bytes at a place.
 fn count_at(b: &[u8], at: usize) -> usize
     requires { at ≤ 2424797 }
     ensures { (result ≡ count_at b.now at) × (result ≤ 65535) }
 {
-    let low = serial::byte_at(b, at);
-    let high = serial::byte_at(b, at + 1);
-    low as usize + 256 * high as usize
+    let bytes = [serial::byte_at(b, at), serial::byte_at(b, at + 1)];
+    usize::from(u16::from_le_bytes(bytes))
 }
 
 // The cards of a book.
@@ -32,7 +36,8 @@ pub fn cards(b: &[u8]) -> Section
 pub fn withdrawn(b: &[u8]) -> Section
     ensures { (result ≡ withdrawn b.now) × (result.count ≤ 65535) }
 {
-    let end = 2 + count_at(b, 0) * 37;
+    let cards = cards(b);
+    let end = cards.base + cards.count * cards.size;
     Section {
         kind: Kind::Serials,
         base: end + 2,
@@ -45,21 +50,14 @@ pub fn withdrawn(b: &[u8]) -> Section
 fn sized(b: &[u8]) -> bool
     ensures { result ≡ sized b.now }
 {
-    let n = count_at(b, 0);
-    let end = 2 + n * 37;
-    let w = count_at(b, end);
-    (n <= 1024) & (w <= 512) & (b.len() == end + 2 + w * 13)
+    let n = cards(b).count;
+    let w = withdrawn(b);
+    (n <= MOST_CARDS) & (w.count <= MOST_WITHDRAWN) & (b.len() == w.base + w.count * w.size)
 }
 
 // Whether these bytes are a well-formed book.
 pub fn is_book(b: &[u8]) -> bool
     ensures { result ≡ well_formed b.now }
 {
-    if !sized(b) {
-        return false;
-    }
-    if !section::section_ok(b, cards(b)) {
-        return false;
-    }
-    section::section_ok(b, withdrawn(b))
+    sized(b) && cards(b).is_ok(b) && withdrawn(b).is_ok(b)
 }

@@ -7,46 +7,40 @@ use mathlib.Core.Option.{Option, none, some}
 use lib.IntN.{ℤ}
 use Rattle.steps.specs.Answers.{OrRefusal, refused, accepted, and_then}
 use Rattle.steps.specs.Port.{Port, port0, port1, on}
-use Rattle.steps.specs.Module.{edit, commit, drop_card, hold, read, Step, at_port, block, reset, did_edit, did_commit, did_drop, did_hold, did_read, did_block, did_reset, Outcome, step}
+use Rattle.steps.specs.Module.{edit, commit, drop_card, hold, read, Step, at_port, block, reset, did_edit, did_commit, did_drop, did_hold, did_read, did_block, did_reset, Outcome as StepOutcome, step}
 use Rattle.steps.specs.Gauge.{Metering, latest, passes}
 use Rattle.steps.specs.Calls.{Reply, reply, after}
 use Rattle.steps.proofs.Calls.{Does}
-use Rattle.steps.specs.declared.Answer.TheVariants.{Done, Refused}
 use Rattle.card.specs.declared.Card.{Card}
 use Rattle.address.specs.declared.ByteAddr.{ByteAddr}
 use Rattle.interval.specs.declared.Closed.{Closed}
 use Rattle.sample.specs.Sample.{every24}
 use Rattle.sample.specs.Sums.{Sample, samples_in, same_length}
 use Rattle.alarm.specs.declared.Watch.{Watch}
-use Rattle.alarm.specs.Alarms.{both, clearing, answered as watchAnswered, reset_of as watchReset}
+use Rattle.alarm.specs.Alarms.{both, clearing}
 use Rattle.halfcycle.proofs.Tests.{good_yes}
 use Rattle.meter.specs.Core.{core, samples_of, reset_watch, meter_of, metering_of}
-use Rattle.meter.specs.Blocks.{wait_of, next_card, block_done, answered, block_of as meterBlock, volts_in, volts_of}
+use Rattle.meter.specs.Blocks.{wait_of, next_card, block_done, fed, block_of as meterBlock, volts_in, volts_of}
 use Rattle.meter.proofs.Agreement.{block_passes}
 use Rattle.desk.specs.declared.Desk.{Desk}
 use Rattle.port.specs.declared.Held.{Held}
 use Rattle.desk.specs.Desks.{open_with, write_field, shut_desk, opening, writing, finished, discarded, dropping}
 use Rattle.port.specs.Holds.{register, copied}
 use Rattle.port.specs.Reading.{look}
-use Rattle.port.specs.declared.Reading.TheVariants.{Refused as NotRead}
-use Rattle.port.specs.Answers.{looked}
 use Rattle.aberzhan.specs.declared.Module.{Module}
-use Rattle.aberzhan.specs.declared.Stepped.{Stepped}
 use Rattle.calls.specs.Ports.{aberzhan}
-use Rattle.aberzhan.specs.Module.{desk_of, held_of, with_meter, watch_of, with_watch, port_at, at_port as atPortOf, refusal, not_held, at_desk, committing, holding, open_of, write_of, commit_of, drop_of, hold_of, read_of, block_of, reset_of}
-use Rattle.calls.specs.Calls.{state_of, module_of, Call, call_open, call_write, call_commit, call_drop, call_hold, call_read, call_block, call_reset, step_of, number_of, call_of, read_reply, from_step, from_hold, returned}
+use Rattle.aberzhan.specs.Module.{Outcome, desk_of, held_of, watch_of, port_at, at_port as at_port_of, refusal, at_desk, committing, holding, open_of, write_of, commit_of, drop_of, hold_of, read_of, feeding, block_of, resetting, reset_of}
+use Rattle.calls.specs.Calls.{state_of, module_of, Call, call_open, call_write, call_commit, call_drop, call_hold, call_read, call_block, call_reset, step_of, number_of, call_of, from_step, from_hold, from_read, returned}
 use Rattle.calls.proofs.Soundness.{SoundModule, sounds}
 use Rattle.calls.proofs.Contracts.{methods, allowed_is}
 
 -- what a call returns, of a step's outcome
-abbrev from : Module → Outcome aberzhan → Reply aberzhan × Module
+abbrev from : Module → StepOutcome aberzhan → Reply aberzhan × Module
 from m o = (reply aberzhan o, module_of (after aberzhan o (state_of m)))
 
 -- ---- a block
-abbrev blocked : Module → OrRefusal (Metering core × List Closed) → Stepped
-blocked m q =
-    let r = answered m.meter (watch_of m) q in
-    record { answer = r.answer; after = with_meter r.after (with_watch (both r.watch (volts_in (watch_of m) q)) m) }
+abbrev blocked : Module → OrRefusal (Metering core × List Closed) → Outcome (Unit {0})
+blocked m q = feeding m (volts_in (watch_of m) q) (and_then q fed)
 
 block_by : (m : Module) (v s1 s3 : List ℤ) (q : OrRefusal (Metering core × List Closed)) →
     from_step (blocked m q) ≡ from m (and_then q (did_block aberzhan (v, s1, s3) (state_of m)))
@@ -63,16 +57,16 @@ block_steps m v s1 s3 h =
 
 -- 18, for a sound module
 eighteen_by : (m : Module) (xs : List Sample) (w f : Bool) (x y : Card) →
-    (blocked m (passes core (accepted xs) (cond w (some x) (cond f (some y) none)) (metering_of m.meter (watch_of m)))).answer ≡ cond (w || f) Done (Refused 18)
+    (blocked m (passes core (accepted xs) (cond w (some x) (cond f (some y) none)) (metering_of m.meter (watch_of m)))).answer ≡ cond (w || f) (accepted tt) (refused 18)
 eighteen_by m xs true f x y = refl
 eighteen_by m xs false true x y = refl
 eighteen_by m xs false false x y = refl
 
 -- of a block whose samples are well formed: 18 is given exactly when no card is in force and none waits
 pub eighteen : (m : Module) (v s1 s3 : List ℤ) (xs : List Sample) → SoundModule m → samples_of v s1 s3 ≡ accepted xs →
-    (block_of m v s1 s3).answer ≡ cond (m.meter.waits || m.meter.forced) Done (Refused 18)
+    (block_of m v s1 s3).answer ≡ cond (m.meter.waits || m.meter.forced) (accepted tt) (refused 18)
 eighteen m v s1 s3 xs h e =
-    ap (λ (s : Stepped). s.answer) (block_is m v s1 s3 h)
+    ap (λ (s : Outcome (Unit {0})). s.answer) (block_is m v s1 s3 h)
     ∙ ap (λ (q : OrRefusal (List Sample)). (blocked m (passes core q (latest core (meter_of m.meter)) (metering_of m.meter (watch_of m)))).answer) e
     ∙ eighteen_by m xs m.meter.waits m.meter.forced m.meter.waiting m.meter.force
 
@@ -87,14 +81,13 @@ empty_block m = empty_by m (next_card m.meter (watch_of m))
 
 -- ---- a reset
 reset_by : (m : Module) (mask : ℤ) (q : OrRefusal Watch) →
-    let r = watchAnswered m.watch q in
-    from_step (record { answer = r.answer; after = with_watch (both r.after m.volts) m }) ≡
+    from_step (resetting m q) ≡
     from m (and_then (and_then (and_then q (λ a. both a m.volts)) (λ w. record { intervals = meter_of m.meter; watch = w })) (did_reset aberzhan mask (state_of m)))
 reset_by m mask (refused n) = refl
 reset_by m mask (accepted a) = refl
 
 reset_steps : (m : Module) (mask : ℤ) → from_step (reset_of m mask) ≡ from m (step aberzhan (reset mask) (state_of m))
-unfolding reset_of watchReset reset_watch
+unfolding reset_of reset_watch
 reset_steps m mask = reset_by m mask (clearing m.watch mask)
 
 -- ---- a step at a port
@@ -128,35 +121,35 @@ hold_by m port0 (accepted h) = refl
 hold_by m port1 (accepted h) = refl
 
 read_by : (m : Module) (p : Port) (a : ByteAddr) (q : OrRefusal ℤ) →
-    ◌≡◌ {A = Reply aberzhan × Module} (read_reply (looked q), m) (from m (and_then (and_then q register) (did_read aberzhan p a (state_of m))))
+    from_read q m ≡ from m (and_then (and_then q register) (did_read aberzhan p a (state_of m)))
 read_by m p a (refused n) = refl
 read_by m p a (accepted v) = refl
 
 -- ---- a call does the step that it asks for
 module _ (m : Module) where
-  open_at : (o : Option Port) (text : List ℕ) → from_step (atPortOf o (refusal 8 m) (λ p. at_desk m p (opening (desk_of m p) text))) ≡ from m (step aberzhan (at_port o (edit (open_with text))) (state_of m))
+  open_at : (o : Option Port) (text : List ℕ) → from_step (at_port_of o (refusal 8 m) (λ p. at_desk m p (opening (desk_of m p) text))) ≡ from m (step aberzhan (at_port o (edit (open_with text))) (state_of m))
   open_at none text = refl
   open_at (some p) text = edit_by m p (opening (desk_of m p) text) ∙ ap (λ (d : Desk). from m (and_then (opening d text) (did_edit aberzhan p (state_of m)))) (desk_is m p)
 
-  write_at : (o : Option Port) (f v : ℤ) → from_step (atPortOf o (refusal 8 m) (λ p. at_desk m p (writing (desk_of m p) f v))) ≡ from m (step aberzhan (at_port o (edit (write_field f v))) (state_of m))
+  write_at : (o : Option Port) (f v : ℤ) → from_step (at_port_of o (refusal 8 m) (λ p. at_desk m p (writing (desk_of m p) f v))) ≡ from m (step aberzhan (at_port o (edit (write_field f v))) (state_of m))
   write_at none f v = refl
   write_at (some p) f v = edit_by m p (writing (desk_of m p) f v) ∙ ap (λ (d : Desk). from m (and_then (writing d f v) (did_edit aberzhan p (state_of m)))) (desk_is m p)
 
-  commit_at : (o : Option Port) → from_step (atPortOf o (refusal 8 m) (λ p. committing m p (finished (desk_of m p)))) ≡ from m (step aberzhan (at_port o commit) (state_of m))
+  commit_at : (o : Option Port) → from_step (at_port_of o (refusal 8 m) (λ p. committing m p (finished (desk_of m p)))) ≡ from m (step aberzhan (at_port o commit) (state_of m))
   commit_at none = refl
   commit_at (some p) = commit_by m p (finished (desk_of m p)) ∙ ap (λ (d : Desk). from m (and_then (finished d) (did_commit aberzhan p (state_of m)))) (desk_is m p)
 
-  drop_at : (o : Option Port) → from_step (atPortOf o (refusal 8 m) (λ p. at_desk m p (dropping (desk_of m p)))) ≡ from m (step aberzhan (at_port o drop_card) (state_of m))
+  drop_at : (o : Option Port) → from_step (at_port_of o (refusal 8 m) (λ p. at_desk m p (dropping (desk_of m p)))) ≡ from m (step aberzhan (at_port o drop_card) (state_of m))
   drop_at none = refl
   drop_at (some p) = drop_by m p (discarded (desk_of m p)) ∙ ap (λ (d : Desk). from m (and_then (discarded d) (did_drop aberzhan p (state_of m)))) (desk_is m p)
 
   hold_at : (o : Option Port) → let w = m.meter.work in
-      from_hold (atPortOf o (not_held 8 m) (λ p. holding m p (copied w.any w.last w.settings.track))) ≡ from m (step aberzhan (at_port o (hold tt)) (state_of m))
+      from_hold (at_port_of o (refusal 8 m) (λ p. holding m p (copied w.any w.last w.settings.track))) ≡ from m (step aberzhan (at_port o (hold tt)) (state_of m))
   hold_at none = refl
   hold_at (some p) = (let w = m.meter.work in hold_by m p (copied w.any w.last w.settings.track))
 
   read_at : (o : Option Port) (a : ByteAddr) →
-      ◌≡◌ {A = Reply aberzhan × Module} (read_reply (atPortOf o (NotRead 8) (λ p. looked (look (held_of m p) a))), m) (from m (step aberzhan (at_port o (read a)) (state_of m)))
+      from_read (at_port_of o (refused 8) (λ p. look (held_of m p) a)) m ≡ from m (step aberzhan (at_port o (read a)) (state_of m))
   read_at none a = refl
   read_at (some p) a = read_by m p a (look (held_of m p) a) ∙ ap (λ (h : Held). from m (and_then (and_then (look h a) register) (did_read aberzhan p a (state_of m)))) (held_is m p)
 

@@ -13,7 +13,7 @@ use Rattle.steps.specs.Answers.{OrRefusal, refused, accepted}
 use Rattle.steps.specs.Port.{port1, on}
 use Rattle.steps.specs.Module.{Op, hold, read}
 use Rattle.steps.specs.Calls.{Reply as Rep, returns, Log, noted}
-use Rattle.steps.specs.declared.Answer.TheVariants.{Done, Refused}
+use Rattle.steps.proofs.Outcomes.{zero_one, refused_never, accepted_is}
 use Rattle.serial.specs.Places.{put}
 use Rattle.serial.proofs.Places.{put_fits}
 use Rattle.port.specs.declared.Held.{Held}
@@ -25,9 +25,8 @@ use Rattle.packet.specs.Commands.{asked_by}
 use Rattle.packet.specs.Replies.{Reply, no_reply, code, values, joined, read_all, sending, replied, reply_to, values_reply, reply_bytes, sends}
 use Rattle.poll.specs.Polls.{read_at, reply_from}
 use Rattle.aberzhan.specs.declared.Module.{Module}
-use Rattle.aberzhan.specs.declared.Polled.{Polled}
 use Rattle.calls.specs.Ports.{aberzhan}
-use Rattle.aberzhan.specs.Module.{with_held, port_at, hold_of, read_of}
+use Rattle.aberzhan.specs.Module.{Outcome, refusal, with_held, port_at, hold_of, read_of}
 use Rattle.aberzhan.specs.Polling.{held_now, poll_reply, after_reply, poll_of, poll_buffer}
 use Rattle.calls.specs.Calls.{Call, call_hold, step_of, returned, program}
 use Rattle.calls.specs.Turns.{sent_by, read_call, poll_calls}
@@ -63,18 +62,10 @@ record Joined (q : OrRefusal ℤ) (s : OrRefusal (List ℤ)) (vs : List ℤ) : T
   rest : s ≡ accepted ws
   all : vs ≡ v ∷ ws
 
-abbrev Taken : OrRefusal (List ℤ) → Type 0
-Taken (refused n) = ⊥
-Taken (accepted vs) = Unit {0}
-
-abbrev of : OrRefusal (List ℤ) → List ℤ
-of (refused n) = []
-of (accepted vs) = vs
-
 joined_by : (q : OrRefusal ℤ) (s : OrRefusal (List ℤ)) (vs : List ℤ) → joined q s ≡ accepted vs → Joined q s vs
-joined_by (refused n) s vs e = absurd (subst Taken (sym e) tt)
-joined_by (accepted v) (refused n) vs e = absurd (subst Taken (sym e) tt)
-joined_by (accepted v) (accepted ws) vs e = record { v = v; ws = ws; first = refl; rest = refl; all = sym (ap of e) }
+joined_by (refused n) s vs e = refused_never e
+joined_by (accepted v) (refused n) vs e = refused_never e
+joined_by (accepted v) (accepted ws) vs e = record { v = v; ws = ws; first = refl; rest = refl; all = sym (accepted_is e) }
 
 -- what they are heard as
 abbrev entries : List ℕ → List ℤ → List (Op aberzhan × Value)
@@ -98,7 +89,7 @@ module _ (m : Module) where
       one_read a r j.v (entries r j.ws) j.first (reads_run r j.ws j.rest) ∙ ap (λ (vs : List ℤ). read_log m (entries (a ∷ r) vs)) (sym j.all)
 
   values_heard : (r : List ℕ) (vs : List ℤ) → read_all (read_at m.hold1) r ≡ accepted vs → values_read (entries r vs) ≡ vs
-  values_heard [] vs e = ap of e
+  values_heard [] vs e = accepted_is e
   values_heard (a ∷ r) vs e =
       let j = joined_by (read_at m.hold1 a) (read_all (read_at m.hold1) r) vs e in
       ap (λ (vs : List ℤ). values_read (entries (a ∷ r) vs)) j.all ∙ ap (λ (ws : List ℤ). j.v ∷ ws) (values_heard r j.ws j.rest) ∙ sym j.all
@@ -108,7 +99,7 @@ module _ (m : Module) where
 -- of nothing held every register is refused, so registers are sent only where an interval has closed
 nothing_given : (a : ℕ) (r : List ℕ) (vs : List ℤ) → read_all (read_at nothing_held) (a ∷ r) ≡ accepted vs → ⊥
 unfolding look
-nothing_given a r vs e = subst Taken (sym e) tt
+nothing_given a r vs e = refused_never e
 
 module _ (m : Module) where
   abbrev last : Held
@@ -148,10 +139,6 @@ module _ (m : Module) where
     sent_run : program (poll_calls (a ∷ more)) m ≡ read_log held ((hold tt, told m.watch.alarms last) ∷ entries (a ∷ more) vs)
     sent_run = hold_run has_closed (map read_call (a ∷ more)) (entries (a ∷ more) vs) (reads_run held (a ∷ more) vs read_last)
 
-abbrev Empty : List ℕ → Type 0
-Empty [] = Unit {0}
-Empty (a ∷ r) = ⊥
-
 -- ---- so it is
 module _ (m : Module) (packet buffer : List ℕ) where
   abbrev regs : List ℕ
@@ -169,10 +156,7 @@ module _ (m : Module) (packet buffer : List ℕ) where
 
   -- nothing is sent
   not_counted : (r : Reply) (fits : Bool) → cond {A = Module} fits (after_reply r m) m ≡ m → cond fits (length (reply_bytes r)) 0 ≤ 1 → Counted [] r fits
-  not_counted r fits e n = (refl, e, λ a more q. absurd (nil_cons a more q), λ q. n)
-    where
-      nil_cons : (a : ℕ) (more : List ℕ) → [] ≡ a ∷ more → ⊥
-      nil_cons a more q = subst Empty q tt
+  not_counted r fits e n = (refl, e, λ a more q. zero_one cc, λ q. n)
 
   -- a reply that sends no register has one byte at most
   short_reply : (r : Reply) → sends r ≡ false → length (reply_bytes r) ≤ 1
@@ -190,11 +174,11 @@ module _ (m : Module) (packet buffer : List ℕ) where
         ap (λ (l : Log aberzhan Module). l.refusals) q,
         ap (λ (h : Held). with_held port1 h m) (now_by m true (has_closed m a more vs e)) ∙ sym (ap (λ (l : Log aberzhan Module). l.end) q),
         λ b rest p. (refl, ap values_reply (sym heard)),
-        λ p. absurd (subst Empty (sym p) tt),
+        λ p. zero_one cc,
       )
 
   all_counted : (rs : List ℕ) (r : Reply) → Sending (read_all (read_at (held_now m)) rs) r → Counted rs r true
-  all_counted [] r s = absurd (s.some (ap of (sym s.read_is)))
+  all_counted [] r s = absurd (s.some (accepted_is (sym s.read_is)))
   all_counted (a ∷ more) r s = subst (λ (r : Reply). Counted (a ∷ more) r true) (sym s.reply_is) (counted a more s.vs s.read_is)
 
   abbrev reply : Reply
@@ -220,23 +204,24 @@ module _ (m : Module) (packet buffer : List ℕ) where
   counts = subst (λ (r : Reply). let f = leb (length (reply_bytes r)) (length buffer) in Counted (cond (sends r && f) regs []) r f) (sym reply_is)
       (counts_by (sends reply) (leb (length (reply_bytes reply)) (length buffer)) refl)
 
+  abbrev outcome : Bool → Outcome ℕ
+  outcome f = cond f (record { answer = accepted (length (reply_bytes (poll_reply m packet))); after = after_reply (poll_reply m packet) m }) (refusal 21 m)
+
   after_by : (poll_of m packet (length buffer)).after ≡ cond {A = Module} fits (after_reply (poll_reply m packet) m) m
   unfolding poll_of
   after_by = go fits
     where
-      go : (f : Bool) → (cond {A = Polled} f (record { answer = Done; length = length (reply_bytes (poll_reply m packet)); after = after_reply (poll_reply m packet) m }) (record { answer = Refused 21; length = 0; after = m })).after
-          ≡ cond {A = Module} f (after_reply (poll_reply m packet) m) m
+      go : (f : Bool) → (outcome f).after ≡ cond {A = Module} f (after_reply (poll_reply m packet) m) m
       go true = refl
       go false = refl
 
-  length_by : (poll_of m packet (length buffer)).length ≡ cond fits (length (reply_bytes (poll_reply m packet))) 0
+  length_by : (n : ℕ) → (poll_of m packet (length buffer)).answer ≡ accepted n → n ≡ cond fits (length (reply_bytes (poll_reply m packet))) 0
   unfolding poll_of
-  length_by = go fits
+  length_by n = go fits
     where
-      go : (f : Bool) → (cond {A = Polled} f (record { answer = Done; length = length (reply_bytes (poll_reply m packet)); after = after_reply (poll_reply m packet) m }) (record { answer = Refused 21; length = 0; after = m })).length
-          ≡ cond f (length (reply_bytes (poll_reply m packet))) 0
-      go true = refl
-      go false = refl
+      go : (f : Bool) → (outcome f).answer ≡ accepted n → n ≡ cond f (length (reply_bytes (poll_reply m packet))) 0
+      go true e = sym (accepted_is e)
+      go false e = refused_never e
 
   sent_bytes : (bytes : List ℕ) → fits ≡ true → reply_bytes (poll_reply m packet) ≡ bytes → poll_buffer m packet buffer ≡ put buffer 0 bytes
   unfolding poll_buffer
@@ -251,6 +236,6 @@ module _ (m : Module) (packet buffer : List ℕ) where
         none_refused = k.0;
         same_module = after_by ∙ k.1;
         same_values = λ a more e. let v = k.2 a more e in sent_bytes _ v.0 v.1;
-        no_data = λ e. subst (λ (n : ℕ). n ≤ 1) (sym length_by) (k.3 e);
+        no_data = λ e n q. subst (λ (n : ℕ). n ≤ 1) (sym (length_by n q)) (k.3 e);
         else_as_it_came = λ e. after_by ∙ k.1 ∙ ap (λ (r : List ℕ). (program (poll_calls r) m).end) e;
       }

@@ -36,15 +36,13 @@ use Rattle.halfcycle.proofs.Parts.{good_more}
 use Rattle.halfcycle.proofs.Fresh.{asked_good, lowest_good, cleared_good}
 use Rattle.meter.specs.Core.{core, samples_of, reset_watch, kept_of}
 use Rattle.meter.specs.Starting.{numbers_ok, config_ok, fresh_of, lowest_meter}
-use Rattle.steps.specs.declared.Answer.TheVariants.{Done, Refused}
 use Rattle.meter.proofs.Agreement.{feeds_sound, wait_sound}
 use Rattle.meter.proofs.Starts.{numbers_in}
 use Rattle.desk.specs.declared.Desk.{Desk}
 use Rattle.aberzhan.specs.declared.Module.{Module}
-use Rattle.aberzhan.specs.declared.Stepped.{Stepped}
 use Rattle.desk.specs.Desks.{Edit, open_with, write_field, shut_desk, empty_card, with_field, opening, writing, all_written, card_on, finished}
 use Rattle.calls.specs.Ports.{aberzhan}
-use Rattle.aberzhan.specs.Module.{fresh_module, settings_ok, start_of}
+use Rattle.aberzhan.specs.Module.{Outcome, fresh_module, settings_ok, start_of}
 
 -- ---- the PHASE on a desk
 empty_phased : (s : Serial) → Phased (card_on (empty_card s))
@@ -161,7 +159,7 @@ module _ (P : Module → Type 0)
     (f : (n b : ℕ) (track : List WordAddr) (config : ℕ) (t : Limits) → 1 ≤ n → n ≤ 4096 → Good (fresh_watch t) no_volts → P (fresh_module (fresh_of n b track config) (fresh_watch t))) where
   module _ (n b : ℤ) (track : List WordAddr) (asked : Asked) (config : ℤ) where
     start_by : (s : Bool) → settings_ok n b track asked config ≡ s →
-        P (cond {A = Stepped} s (record { answer = Done; after = fresh_module (fresh_of (nat_abs n) (nat_abs b) track (nat_abs config)) (fresh_watch (limits_in asked)) }) (record { answer = Refused 7; after = fresh_module lowest_meter lowest_watch })).after
+        P (cond {A = Outcome (Unit {0})} s (record { answer = accepted tt; after = fresh_module (fresh_of (nat_abs n) (nat_abs b) track (nat_abs config)) (fresh_watch (limits_in asked)) }) (record { answer = refused 7; after = fresh_module lowest_meter lowest_watch })).after
     unfolding settings_ok
     start_by true e =
         let j = both_of (numbers_ok n b && every_slot track && asked_ok asked) (config_ok config) e in

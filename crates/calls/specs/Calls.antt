@@ -1,26 +1,18 @@
 -- A program's calls of the module's methods: the step that a call asks for, and what the definitions say that it returns.
 use Rattle.std.specs.Prelude.{ℕ, List, [], ◌∷◌, ℤ, pos}
 use Rattle.std.proofs.Math.Option.{Option, none, some}
+use Rattle.steps.specs.Answers.{OrRefusal, refused, accepted}
 use Rattle.steps.specs.Port.{Port, port0, port1}
 use Rattle.steps.specs.Module.{edit, commit, drop_card, hold, read, Step, at_port, block, reset, State}
 use Rattle.steps.specs.Calls.{Reply, refuses, done, returns, Log, none_called, noted}
-use Rattle.steps.specs.declared.Answer.{Answer}
-use Rattle.steps.specs.declared.Answer.TheVariants.{Done, Refused}
-use Rattle.serial.specs.declared.Serial.{Serial}
 use Rattle.address.specs.declared.ByteAddr.{ByteAddr}
-use Rattle.sample.specs.declared.Clips.{Clips}
-use Rattle.alarm.specs.declared.Alarms.{Alarms}
 use Rattle.meter.specs.Core.{kept_of, metering_of}
-use Rattle.port.specs.declared.Reading.{Reading}
-use Rattle.port.specs.declared.Reading.TheVariants.{Value as ReadOut, Refused as NotRead}
 use Rattle.desk.specs.Desks.{open_with, write_field}
 use Rattle.port.specs.Holds.{interval, register}
 use Rattle.aberzhan.specs.declared.Module.{Module}
-use Rattle.aberzhan.specs.declared.Stepped.{Stepped}
 use Rattle.aberzhan.specs.declared.Holding.{Holding}
-use Rattle.aberzhan.specs.declared.Looked.{Looked}
 use Rattle.calls.specs.Ports.{aberzhan}
-use Rattle.aberzhan.specs.Module.{watch_of, port_at, open_of, write_of, commit_of, drop_of, hold_of, read_of, block_of, reset_of}
+use Rattle.aberzhan.specs.Module.{Outcome, watch_of, port_at, open_of, write_of, commit_of, drop_of, hold_of, read_of, block_of, reset_of}
 
 -- ---- the struct as the state of crate `steps`, and back
 
@@ -81,29 +73,32 @@ call_of (reset mask) = call_reset mask
 
 -- ---- what a call returns: the reply and the module after it
 
--- the number that says no, or the word that it is done
-abbrev pub reply_of : Answer → Reply aberzhan
-reply_of Done = done
-reply_of (Refused n) = refuses n
+-- the number that says no, or what is replied to an answer
+abbrev pub reply_by : {A : Type 0} → (A → Reply aberzhan) → OrRefusal A → Reply aberzhan
+reply_by f (refused n) = refuses n
+reply_by f (accepted a) = f a
+
+-- a step that tells nothing: the word that it is done
+abbrev pub step_reply : OrRefusal (Unit {0}) → Reply aberzhan
+step_reply q = reply_by (λ u. done) q
 
 -- a hold that is done returns the interval's number, its serial and its counts of clipped samples, and the alarms
-abbrev pub held_reply : Answer → ℕ → Serial → Clips → Alarms → Reply aberzhan
-held_reply Done n s k a = returns (interval n s k a)
-held_reply (Refused r) n s k a = refuses r
+abbrev pub hold_reply : OrRefusal Holding → Reply aberzhan
+hold_reply q = reply_by (λ h. returns (interval h.number h.serial h.clips h.alarms)) q
 
 -- a read returns the value of a register
-abbrev pub read_reply : Reading → Reply aberzhan
-read_reply (ReadOut v) = returns (register v)
-read_reply (NotRead n) = refuses n
+abbrev pub read_reply : OrRefusal ℤ → Reply aberzhan
+read_reply q = reply_by (λ v. returns (register v)) q
 
-abbrev pub from_step : Stepped → Reply aberzhan × Module
-from_step r = (reply_of r.answer, r.after)
+abbrev pub from_step : Outcome (Unit {0}) → Reply aberzhan × Module
+from_step r = (step_reply r.answer, r.after)
 
-abbrev pub from_hold : Holding → Reply aberzhan × Module
-from_hold r = (held_reply r.answer r.number r.serial r.clips r.alarms, r.after)
+abbrev pub from_hold : Outcome Holding → Reply aberzhan × Module
+from_hold r = (hold_reply r.answer, r.after)
 
-abbrev pub from_read : Looked → Reply aberzhan × Module
-from_read r = (read_reply r.answer, r.after)
+-- a read leaves the module that it reads
+abbrev pub from_read : OrRefusal ℤ → Module → Reply aberzhan × Module
+from_read q m = (read_reply q, m)
 
 abbrev pub returned : Call → Module → Reply aberzhan × Module
 returned (call_open p text) m = from_step (open_of m p text)
@@ -111,11 +106,11 @@ returned (call_write p field v) m = from_step (write_of m p field v)
 returned (call_commit p) m = from_step (commit_of m p)
 returned (call_drop p) m = from_step (drop_of m p)
 returned (call_hold p) m = from_hold (hold_of m p)
-returned (call_read p a) m = from_read (read_of m p a)
+returned (call_read p a) m = from_read (read_of m p a) m
 returned (call_block v s1 s3) m = from_step (block_of m v s1 s3)
 returned (call_reset mask) m = from_step (reset_of m mask)
 
--- calls, one after the other, each with the module that the one before returned
+-- calls, one after the other, each with the module that the one before left
 abbrev pub program : List Call → Module → Log aberzhan Module
 program [] m = none_called aberzhan Module m
 program (k ∷ ks) m = let r = returned k m in noted aberzhan Module (step_of k) r.0 (program ks r.1)

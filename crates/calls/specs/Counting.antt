@@ -1,5 +1,6 @@
 -- What it is that a poll counts as its hold and its reads: they are not refused, leave the module that it leaves, and return what it sends.
 use Rattle.std.specs.Prelude.{ℕ, ◌≤◌, ◌≡◌, List, [], ◌∷◌, ℤ, length}
+use Rattle.steps.specs.Answers.{accepted}
 use Rattle.steps.specs.Port.{port1, on}
 use Rattle.steps.specs.Module.{Op}
 use Rattle.steps.specs.Calls.{Log}
@@ -32,5 +33,5 @@ module _ (m : Module) (packet buffer : List ℕ) where
     pub same_values : (a : ℕ) (more : List ℕ) → sent ≡ a ∷ more →
         poll_buffer m packet buffer ≡ put buffer 0 (values_reply (values_read (on themselves.heard port1)))
     -- and else there are no data in the reply, of one byte at most, and the module is as it came
-    pub no_data : sent ≡ [] → (poll_of m packet (length buffer)).length ≤ 1
+    pub no_data : sent ≡ [] → (n : ℕ) → (poll_of m packet (length buffer)).answer ≡ accepted n → n ≤ 1
     pub else_as_it_came : sent ≡ [] → (poll_of m packet (length buffer)).after ≡ m

@@ -9,24 +9,30 @@ ghost use Rattle.card.specs.Cards.{three_at, value_of, field_at, digits_at, fiel
 
 use serial::Serial;
 
-#[derive(Clone, Copy)]
+#[derive(Clone, Copy, Debug, PartialEq, Eq)]
 pub struct Card {
     pub serial: Serial,
     pub fields: [i32; 8],
 }
 
 // The least and the greatest value of each field, in order.
-const LOWS: [i64; 8] = [-8388608, -8388608, 1, 1, 0, 0, 0, 0];
-
-const HIGHS: [i64; 8] = [
-    8388607, 8388607, 8388607, 8388607, 4095, 8388607, 8388607, 8388607,
+const RANGES: [(i64, i64); 8] = [
+    (-8388608, 8388607), // VOFFS
+    (-8388608, 8388607), // IOFFS
+    (1, 8388607), // VGAIN
+    (1, 8388607), // IGAIN
+    (0, 4095), // PHASE
+    (0, 8388607), // IRMSOFFS
+    (0, 8388607), // SQUELCH
+    (0, 8388607), // POFFS
 ];
 
 fn fits_field(k: usize, value: i64) -> bool
     requires { k < 8 }
     ensures { result ≡ fits_field k value }
 {
-    (LOWS[k] <= value) & (value <= HIGHS[k])
+    let (low, high) = RANGES[k];
+    (low <= value) & (value <= high)
 }
 
 // Whether a value is in the range of the field with this number; of no field but 1 to 8.
@@ -47,10 +53,8 @@ pub fn values_fit(values: [i64; 8]) -> bool
     ensures { result ≡ values_fit values }
 {
     let mut ok = true;
-    let mut k = 0;
-    while k < 8 {
-        ok = ok & fits_field(k, values[k]);
-        k += 1;
+    for k in 0..8 {
+        ok &= fits_field(k, values[k]);
     }
     ok
 }
@@ -92,11 +96,8 @@ fn digits_at(c: &[u8]) -> [u8; 12]
     ensures { result ≡ digits_at c.now }
 {
     let mut d = [0u8; 12];
-    let mut k = 0;
-    while k < 12 {
-        let v = serial::byte_at(c, 1 + k);
-        d[k] = v;
-        k += 1;
+    for k in 0..12 {
+        d[k] = serial::byte_at(c, 1 + k);
     }
     d
 }
@@ -105,11 +106,8 @@ fn fields_at(c: &[u8]) -> [i32; 8]
     ensures { result ≡ fields_at c.now }
 {
     let mut f = [0i32; 8];
-    let mut k = 0;
-    while k < 8 {
-        let v = field_at(c, k);
-        f[k] = v;
-        k += 1;
+    for k in 0..8 {
+        f[k] = field_at(c, k);
     }
     f
 }
@@ -119,15 +117,13 @@ impl Card {
     pub fn of(c: &[u8]) -> Card
         ensures { result ≡ card_of c.now }
     {
-        let digits = digits_at(c);
-        let fields = fields_at(c);
         let serial = Serial {
             len: serial::byte_at(c, 0),
-            digits: digits,
+            digits: digits_at(c),
         };
         Card {
-            serial: serial,
-            fields: fields,
+            serial,
+            fields: fields_at(c),
         }
     }
 }
@@ -136,10 +132,8 @@ fn fields_ok(c: &[u8]) -> bool
     ensures { result ≡ fields_ok c.now }
 {
     let mut ok = true;
-    let mut k = 0;
-    while k < 8 {
-        ok = ok & fits_field(k, field_at(c, k) as i64);
-        k += 1;
+    for k in 0..8 {
+        ok &= fits_field(k, field_at(c, k) as i64);
     }
     ok
 }

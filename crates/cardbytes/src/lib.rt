@@ -43,11 +43,9 @@ pub fn card_bytes(serial: Serial, fields: [i64; 8]) -> [u8; 37]
     let head = serial.bytes();
     let mut c = [0u8; 37];
     serial::put_at(&mut c, 0, &head);
-    let mut i = 0;
-    while i < 8 {
+    for i in 0..8 {
         let three = field_bytes(fields[i]);
         serial::put_at(&mut c, 13 + 3 * i, &three);
-        i += 1;
     }
     c
 }

@@ -1,16 +1,13 @@
--- Laws of the changes' answers: what an arm that is no length knows, what an accepted change says of the checks, and that no answer is beyond the buffer.
+-- Laws of the changes' answers: what an accepted change says of the checks, and that no answer is beyond the buffer.
 use Prim.Native.Nat.{ℕ, ◌+◌, ◌≤◌, ◌<◌}
-use mathlib.Core.Path.{◌≡◌, refl}
+use mathlib.Core.Path.{◌≡◌}
 use mathlib.Core.Bool.{true, false, not}
-use mathlib.Core.List.{List, [], ◌∷◌}
-use mathlib.Core.Logic.{⊎_elim}
+use mathlib.Core.List.{List}
 use native.Mathlib.Omega.{arith}
 use lib.IntN.{ℤ}
 use lib.ListN.{length, take}
 use lib.Seq.{length-take-le}
-use lib.Dec.{leb, ltb, eqb}
-use types.Run.{OneOf}
-use denote.Enum.Declared.{tag_of}
+use lib.Dec.{leb, ltb}
 use borrow.Author.Tests.{not-true, ltb-true, leb-true}
 use Rattle.serial.proofs.Every.{and_left, and_right}
 use Rattle.serial.specs.Serials.{is_serial, serial_of, serial_bytes}
@@ -23,22 +20,7 @@ use Rattle.section.specs.declared.Section.{Section}
 use Rattle.book.specs.Book.{cards, withdrawn, well_formed, Sized}
 use Rattle.lookup.proofs.Answers.{ask_none, ask_within}
 use Rattle.book.proofs.Sections.{formed_sized}
-use Rattle.change.specs.Answers.{changed_answer}
 use Rattle.change.specs.Change.{book_in, Takes, room_for, Ready, add_answer, withdraw_answer}
-use Rattle.change.specs.declared.Changed.{Changed}
-use Rattle.change.specs.declared.Changed.TheVariants as changed
-use Rattle.change.specs.contracts.Changed as Changed-type
-
--- an answer that is no length refuses
-pub not_length : (r : Changed) → OneOf (1 ∷ 2 ∷ 3 ∷ 4 ∷ 5 ∷ 6 ∷ []) (tag_of Changed-type.the_type r) → eqb (changed_answer r).number 0 ≡ false
-not_length (changed.Length n) h =
-    absurd (⊎_elim (λ e. omega arith) (⊎_elim (λ e. omega arith) (⊎_elim (λ e. omega arith) (⊎_elim (λ e. omega arith) (⊎_elim (λ e. omega arith) (λ e. omega arith))))) h)
-not_length changed.NotSerial h = refl
-not_length changed.OutOfRange h = refl
-not_length changed.Malformed h = refl
-not_length changed.Present h = refl
-not_length changed.Full h = refl
-not_length changed.NoRoom h = refl
 
 -- there is room for one entry more
 pub record Room (b : List ℕ) (s : Section) (limit : ℕ) (t : List ℕ) (room : ℕ) : Type 0 where

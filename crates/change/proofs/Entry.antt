@@ -9,11 +9,23 @@ use lib.ListN.{length, get_or, take, drop, length-append, length-take, length-dr
 use lib.Seq.{length-take-le, get_or-take, get_or-drop, get_or-append-add, ext_get_or}
 use lib.Dec.{ltb}
 use borrow.Author.Tests.{ltb-true, ltb-false}
+use Rattle.std.specs.List.{copy_within}
+use Rattle.std.specs.Int.{w16, to_le_bytes}
 use Rattle.serial.specs.Places.{part, put, put_within}
 use Rattle.serial.proofs.Places.{length_part, part_at, length_put, put_below, put_in, put_over, put_fits}
 use Rattle.section.specs.Sections.{end_of}
 use Rattle.change.specs.Change.{count_bytes, with_entry}
 use Rattle.section.specs.declared.Section.{Section}
+
+-- `copy_within` moves a part
+pub moved_part : (b : List ℕ) (from to dest : ℕ) → from ≤ to → to ≤ length b → copy_within b from to dest ≡ put b dest (part b from (to - from))
+unfolding put part
+moved_part b from to dest l m = rw (length_part b from (to - from) (omega arith)) refl
+
+-- a count in two bytes
+pub count_low_first : (n : ℕ) → n < 65536 → to_le_bytes w16 n ≡ count_bytes n
+unfolding count_bytes
+count_low_first n l = refl
 
 -- what stands k past the end of the first list
 past : (p q : List ℕ) (n k : ℕ) → length p ≡ n → n ≤ k → get_or (p ++ q) k 0 ≡ get_or q (k - n) 0

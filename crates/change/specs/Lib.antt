@@ -1,4 +1,3 @@
 -- Adding a card to the book and withdrawing a serial, from document 01, and what is promised of them.
-pub mod Answers
 pub mod Change
 pub mod Promises

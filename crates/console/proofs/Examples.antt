@@ -14,6 +14,7 @@ use Rattle.serial.specs.Every.{every}
 use Rattle.serial.specs.Texts.{same_text}
 use Rattle.refusal.specs.Words.{table, words_of}
 use Rattle.names.specs.Names.{registers, spelled, named_in, register_named}
+use Rattle.steps.specs.Answers.{refused as no, accepted}
 use Rattle.aberzhan.specs.declared.Module.{Module}
 use Rattle.aberzhan.specs.Module.{block_of}
 use Rattle.console.specs.declared.words.Word.TheVariants as word
@@ -24,20 +25,20 @@ use Rattle.console.specs.Numbers.{digit_of, worth_behind, digits_of, positive, n
 use Rattle.console.specs.Items.{worth_in, next_of, row_of, several}
 use Rattle.console.specs.Words.{items_of}
 use Rattle.console.specs.Unread.{why_words, stopped_before, slice_stopped, packet_stopped}
-use Rattle.console.specs.Turns.{barely, stepped_turn, polled_turn, asked_of, start_turn, with_items, packet_turn, with_packet, slice_turn, s3_turn, with_samples}
+use Rattle.console.specs.Turns.{stepped_turn, polled_turn, asked_of, start_turn, with_items, packet_turn, with_packet, slice_turn, s3_turn, with_samples}
 use Rattle.console.specs.Answers.{end, unread_line, refused_line, value_line, digits_text, card_text, count_text, clips_text, alarms_text, held_line}
 use Rattle.console.specs.Answers.{hex_digit, bytes_text, reply_line, cards_line, said_text, told_text}
 
-refused : told_text (barely (said.Refused 16)) ≡ ascii "REFUSED 16: no register has this byte address" ++ end
-unfolding told_text said_text refused_line decimal digits ascii words_of table
+refused : told_text (no 16) ≡ ascii "REFUSED 16: no register has this byte address" ++ end
+unfolding told_text refused_line decimal digits ascii words_of table
 refused = refl
 
-unread : told_text (barely (said.Unread why.NotField)) ≡ ascii "UNREAD: neither a 64-bit number nor a field's name" ++ end
-unfolding told_text said_text unread_line why_words ascii
+unread : said_text (said.Unread why.NotField) ≡ ascii "UNREAD: neither a 64-bit number nor a field's name" ++ end
+unfolding said_text unread_line why_words ascii
 unread = refl
 
-value : told_text (barely (said.Value (negsuc 204))) ≡ ascii "ok -205" ++ end
-unfolding told_text said_text value_line signed_decimal decimal digits ascii
+value : said_text (said.Value (negsuc 204)) ≡ ascii "ok -205" ++ end
+unfolding said_text value_line signed_decimal decimal digits ascii
 value = refl
 
 abbrev label : Serial
@@ -93,15 +94,15 @@ asked_sag = refl
 
 -- its first eight items must stand; of the rest, what stands must be a number; a fourteenth is too many
 module _ (m : Module) where
-  start_short : (with_items m word.Start (ascii " 1 1 0 0 0 0 0")).told.said ≡ said.Unread why.Missing
+  start_short : (with_items m word.Start (ascii " 1 1 0 0 0 0 0")).said ≡ accepted (said.Unread why.Missing)
   unfolding with_items row_of items_of next_of worth_in value_of begins_with length_to digits_of worth_behind digit_of positive register_named named_in spelled registers same_text every stopped_before ascii
   start_short = refl
 
-  start_named : (with_items m word.Start (ascii " 1 1 0 0 0 0 0 0 40 WATT_A")).told.said ≡ said.Unread why.NotNumber
+  start_named : (with_items m word.Start (ascii " 1 1 0 0 0 0 0 0 40 WATT_A")).said ≡ accepted (said.Unread why.NotNumber)
   unfolding with_items row_of items_of next_of worth_in value_of begins_with length_to digits_of worth_behind digit_of positive register_named named_in spelled registers same_text every stopped_before ascii
   start_named = refl
 
-  start_long : (with_items m word.Start (ascii " 1 1 0 0 0 0 0 0 1 0 0 0 0 0")).told.said ≡ said.Unread why.More
+  start_long : (with_items m word.Start (ascii " 1 1 0 0 0 0 0 0 1 0 0 0 0 0")).said ≡ accepted (said.Unread why.More)
   unfolding with_items row_of items_of next_of worth_in value_of begins_with length_to digits_of worth_behind digit_of positive register_named named_in spelled registers same_text every stopped_before ascii
   start_long = refl
 
@@ -126,19 +127,19 @@ module _ (m : Module) where
   block_empty = refl
 
   -- with no bar, with one, with three, and with a bar that lacks its space
-  block_no_bar : (with_samples 3 3 3 m (ascii " 1")).told.said ≡ said.Unread why.NoBar
+  block_no_bar : (with_samples 3 3 3 m (ascii " 1")).said ≡ accepted (said.Unread why.NoBar)
   unfolding slice_turn s3_turn row_of several next_of worth_in value_of begins_with length_to digits_of worth_behind digit_of positive negative slice_stopped ascii
   block_no_bar = refl
 
-  block_one_bar : (with_samples 3 3 3 m (ascii " 1 | 1")).told.said ≡ said.Unread why.NoBar
+  block_one_bar : (with_samples 3 3 3 m (ascii " 1 | 1")).said ≡ accepted (said.Unread why.NoBar)
   unfolding slice_turn s3_turn row_of several next_of worth_in value_of begins_with length_to digits_of worth_behind digit_of positive negative slice_stopped ascii
   block_one_bar = refl
 
-  block_three_bars : (with_samples 3 3 3 m (ascii " 1 | 1 | 1 |")).told.said ≡ said.Unread why.NotSample
+  block_three_bars : (with_samples 3 3 3 m (ascii " 1 | 1 | 1 |")).said ≡ accepted (said.Unread why.NotSample)
   unfolding slice_turn s3_turn row_of several next_of worth_in value_of begins_with length_to digits_of worth_behind digit_of positive negative slice_stopped ascii
   block_three_bars = refl
 
-  block_close_bar : (with_samples 3 3 3 m (ascii " ||")).told.said ≡ said.Unread why.NotSample
+  block_close_bar : (with_samples 3 3 3 m (ascii " ||")).said ≡ accepted (said.Unread why.NotSample)
   unfolding slice_turn s3_turn row_of several next_of worth_in value_of begins_with length_to digits_of worth_behind digit_of positive negative slice_stopped ascii
   block_close_bar = refl
 
@@ -147,7 +148,7 @@ module _ (m : Module) where
   unfolding slice_turn s3_turn row_of several next_of worth_in value_of begins_with length_to digits_of worth_behind digit_of positive negative ascii
   block_full = refl
 
-  block_over : (with_samples 2 2 2 m (ascii " 1 2 | 3 4 | 5 6 7")).told.said ≡ said.Unread why.TooMany
+  block_over : (with_samples 2 2 2 m (ascii " 1 2 | 3 4 | 5 6 7")).said ≡ accepted (said.Unread why.TooMany)
   unfolding slice_turn s3_turn row_of several next_of worth_in value_of begins_with length_to digits_of worth_behind digit_of positive negative slice_stopped ascii
   block_over = refl
 
@@ -161,28 +162,28 @@ module _ (m : Module) where
   poll_nothing = refl
 
   -- no room, and rooms that are none
-  poll_short : (with_packet m []).told.said ≡ said.Unread why.Missing
+  poll_short : (with_packet m []).said ≡ accepted (said.Unread why.Missing)
   unfolding with_packet packet_turn row_of several items_of next_of worth_in value_of pair_of begins_with length_to digits_of worth_behind digit_of positive negative stopped_before ascii
   poll_short = refl
 
-  poll_wide : (with_packet m (ascii " 256 AA")).told.said ≡ said.Unread why.NotRoom
+  poll_wide : (with_packet m (ascii " 256 AA")).said ≡ accepted (said.Unread why.NotRoom)
   unfolding with_packet packet_turn row_of several items_of next_of worth_in value_of pair_of begins_with length_to digits_of worth_behind digit_of positive negative stopped_before ascii
   poll_wide = refl
 
-  poll_below : (with_packet m (ascii " -1")).told.said ≡ said.Unread why.NotRoom
+  poll_below : (with_packet m (ascii " -1")).said ≡ accepted (said.Unread why.NotRoom)
   unfolding with_packet packet_turn row_of several items_of next_of worth_in value_of pair_of begins_with length_to digits_of worth_behind digit_of positive negative stopped_before ascii
   poll_below = refl
 
   -- one digit, three, and a space at the line's end
-  poll_digit : (with_packet m (ascii " 255 AA 3")).told.said ≡ said.Unread why.NotByte
+  poll_digit : (with_packet m (ascii " 255 AA 3")).said ≡ accepted (said.Unread why.NotByte)
   unfolding with_packet packet_turn row_of several items_of next_of worth_in value_of pair_of begins_with length_to digits_of worth_behind digit_of positive negative stopped_before ascii
   poll_digit = refl
 
-  poll_digits : (with_packet m (ascii " 255 0AA")).told.said ≡ said.Unread why.NotByte
+  poll_digits : (with_packet m (ascii " 255 0AA")).said ≡ accepted (said.Unread why.NotByte)
   unfolding with_packet packet_turn row_of several items_of next_of worth_in value_of pair_of begins_with length_to digits_of worth_behind digit_of positive negative stopped_before ascii
   poll_digits = refl
 
-  poll_space : (with_packet m (ascii " 255 ")).told.said ≡ said.Unread why.NotByte
+  poll_space : (with_packet m (ascii " 255 ")).said ≡ accepted (said.Unread why.NotByte)
   unfolding with_packet packet_turn row_of several items_of next_of worth_in value_of pair_of begins_with length_to digits_of worth_behind digit_of positive negative stopped_before ascii
   poll_space = refl
 

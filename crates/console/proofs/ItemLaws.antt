@@ -1,6 +1,6 @@
 -- Taking items one after another into a buffer. What was taken and the row behind it make up the whole row.
 use Prim.Native.Nat.{ℕ, zero, suc, ◌+◌, ◌*◌, ◌^◌, ◌≤◌, ◌<◌, suc-le-suc}
-use mathlib.Core.Path.{◌≡◌, refl, sym, ap, ◌∙◌}
+use mathlib.Core.Path.{◌≡◌, refl, sym, ap, subst, ◌∙◌}
 use mathlib.Core.Bool.{Bool, true, false, cond, ◌&&◌, false≢true}
 use mathlib.Core.List.{List, [], ◌∷◌, ◌++◌, map, append_assoc, append-nil}
 use native.Mathlib.Nat.{add_assoc}
@@ -16,57 +16,70 @@ use mir.Val.{SFits}
 use borrow.Author.Tests.{leb-true, lt-ltb, le-leb, ltb-true, ne_eqb}
 use Rattle.console.specs.declared.items.Row.{Row}
 use Rattle.console.specs.declared.items.Next.{Next}
-use Rattle.console.specs.declared.items.Next.TheVariants as next
-use Rattle.console.specs.declared.numerals.Worth.TheVariants as worth
-use Rattle.console.specs.declared.numerals.Number.{Number}
-use Rattle.console.specs.declared.numerals.Number.TheVariants as number
+use Rattle.std.specs.Prelude.{Option, Some, None}
 use Rattle.console.specs.declared.words.Kind.{Kind}
 use Rattle.console.specs.declared.words.Kind.TheVariants as kind
 use Rattle.console.specs.Texts.{begins_with, length_to}
-use Rattle.console.specs.Numbers.{digit_of, worth_behind, up_to, digits_of, positive, value_of, pair_of}
+use Rattle.console.specs.Numbers.{digit_of, at_digit, worth_behind, up_to, digits_of, positive, value_of, pair_of}
 use Rattle.console.specs.Items.{between, worth_in, numbered, next_of, Numbers, none, before, row_of, several, packet_of, Filled}
 use Rattle.console.proofs.TextLaws.{and_left, and_right, begins_within, to_within}
 
 -- ---- an item takes no more bytes than there are
-numbered_is : (v : Number) (b : ℕ) (x : ℤ) (n : ℕ) → numbered v b ≡ next.Number x n → (v ≡ number.Is x) × (n ≡ b)
-numbered_is (number.Is y) b x n e = let q : y ≡ x = cc in (ap (λ (z : ℤ). number.Is z) q, cc)
-numbered_is number.Not b x n e = let z : ◌≡◌ {A = ℕ} 0 1 = cc in absurd (omega arith)
+numbered_is : (v : Option ℤ) (b : ℕ) (i : Next) → numbered v b ≡ Some i → (v ≡ Some i.worth) × (i.taken ≡ b)
+numbered_is (Some y) b i e =
+    let q : ◌≡◌ {A = Next} (record { worth = y; taken = b }) i = cc in
+    (ap (λ (j : Next). Some j.worth) q, sym (ap (λ (j : Next). j.taken) q))
+numbered_is None b i e = let z : ◌≡◌ {A = ℕ} 0 1 = cc in absurd (omega arith)
 
 -- an item that is worth a number stands behind a space
-module _ (k : Kind) (t : List ℕ) (x : ℤ) (n : ℕ) where
-  next_is : next_of k t ≡ next.Number x n → (worth_in k (take (length_to 32 (drop 1 t)) (drop 1 t)) ≡ number.Is x) × (n ≤ length t)
+module _ (k : Kind) (t : List ℕ) (i : Next) where
+  next_is : next_of k t ≡ Some i → (worth_in k (take (length_to 32 (drop 1 t)) (drop 1 t)) ≡ Some i.worth) × (i.taken ≤ length t)
   unfolding next_of
   next_is e = by (begins_with (32 ∷ []) t) refl e
     where
-      by : (s : Bool) → begins_with (32 ∷ []) t ≡ s → cond s (numbered (worth_in k (take (length_to 32 (drop 1 t)) (drop 1 t))) (length_to 32 (drop 1 t) + 1)) next.Not ≡ next.Number x n →
-          (worth_in k (take (length_to 32 (drop 1 t)) (drop 1 t)) ≡ number.Is x) × (n ≤ length t)
+      by : (s : Bool) → begins_with (32 ∷ []) t ≡ s → cond s (numbered (worth_in k (take (length_to 32 (drop 1 t)) (drop 1 t))) (length_to 32 (drop 1 t) + 1)) None ≡ Some i →
+          (worth_in k (take (length_to 32 (drop 1 t)) (drop 1 t)) ≡ Some i.worth) × (i.taken ≤ length t)
       by true s e =
-          let h = numbered_is (worth_in k (take (length_to 32 (drop 1 t)) (drop 1 t))) (length_to 32 (drop 1 t) + 1) x n e in
+          let h = numbered_is (worth_in k (take (length_to 32 (drop 1 t)) (drop 1 t))) (length_to 32 (drop 1 t) + 1) i e in
           (h.0, omega (arith, h.1, to_within 32 (drop 1 t), length-drop 1 t, begins_within (32 ∷ []) t s))
       by false s e = let z : ◌≡◌ {A = ℕ} 0 1 = cc in absurd (omega arith)
 
-  pub next_within : next_of k t ≡ next.Number x n → n ≤ length t
+  pub next_within : next_of k t ≡ Some i → i.taken ≤ length t
   next_within e = (next_is e).1
+
+-- an item behind a space, once it is found
+module _ (k : Kind) (text item : List ℕ) (n : ℕ) (s : begins_with (32 ∷ []) text ≡ true) (i : item ≡ drop 1 text) (l : n ≡ length_to 32 item) where
+  pub no_worth : worth_in k (take n item) ≡ None → None ≡ next_of k text
+  unfolding next_of
+  no_worth e = simp (s, ← i, ← l, e)
+
+  pub some_worth : (x : ℤ) → worth_in k (take n item) ≡ Some x → Some (record { worth = x; taken = n + 1 }) ≡ next_of k text
+  unfolding next_of
+  some_worth x e = simp (s, ← i, ← l, e)
+
+pub no_space : (k : Kind) (text : List ℕ) → begins_with (32 ∷ []) text ≡ false → None ≡ next_of k text
+unfolding next_of
+no_space k text e = simp e
 
 -- ---- a number from one to another
 module _ (low high x : ℤ) where
-  is_between : (v : Number) → between low high v ≡ number.Is x → (le_z low x && le_z x high) ≡ true
-  is_between (number.Is y) e = by (le_z low y && le_z y high) refl e
+  is_between : (v : Option ℤ) → between low high v ≡ Some x → (le_z low x && le_z x high) ≡ true
+  is_between (Some y) e = by (le_z low y && le_z y high) refl e
     where
-      by : (s : Bool) → (le_z low y && le_z y high) ≡ s → cond s (number.Is y) number.Not ≡ number.Is x → (le_z low x && le_z x high) ≡ true
+      by : (s : Bool) → (le_z low y && le_z y high) ≡ s → cond s (Some y) None ≡ Some x → (le_z low x && le_z x high) ≡ true
       by true s e = let q : y ≡ x = cc in rw (← q) s
       by false s e = let z : ◌≡◌ {A = ℕ} 0 1 = cc in absurd (omega arith)
-  is_between number.Not e = let z : ◌≡◌ {A = ℕ} 0 1 = cc in absurd (omega arith)
+  is_between None e = let z : ◌≡◌ {A = ℕ} 0 1 = cc in absurd (omega arith)
 
 -- a sample has 32 bits
 small_fits : (x : ℤ) → (le_z (negsuc 2147483647) x && le_z x (pos 2147483647)) ≡ true → SFits w32 x
 small_fits (pos n) h = record { sfits = omega (arith, leb-true n 2147483647 h) }
 small_fits (negsuc n) h = record { sfits = omega (arith, leb-true n 2147483647 (and_left _ _ h)) }
 
-pub sample_fits : (t : List ℕ) (x : ℤ) (n : ℕ) → next_of kind.Sample t ≡ next.Number x n → SFits w32 x
+pub sample_fits : (t : List ℕ) (i : Next) → next_of kind.Sample t ≡ Some i → SFits w32 i.worth
 unfolding worth_in
-sample_fits t x n e =
-    small_fits x (is_between (negsuc 2147483647) (pos 2147483647) x (value_of (take (length_to 32 (drop 1 t)) (drop 1 t))) (next_is kind.Sample t x n e).0)
+sample_fits t i e =
+    small_fits i.worth (is_between (negsuc 2147483647) (pos 2147483647) i.worth (value_of (take (length_to 32 (drop 1 t)) (drop 1 t))) (next_is kind.Sample t i e).0)
 
 -- a room and a byte have eight
 pub record Small (x : ℤ) : Type 0 where
@@ -81,26 +94,38 @@ few : (x : ℤ) → (le_z (pos 0) x && le_z x (pos 255)) ≡ true → Small x
 few (pos n) h = small n (leb-true n 255 (and_right (le_z (pos 0) (pos n)) _ h))
 few (negsuc n) h = absurd (false≢true h)
 
-pub room_small : (t : List ℕ) (x : ℤ) (n : ℕ) → next_of kind.Room t ≡ next.Number x n → Small x
+pub room_small : (t : List ℕ) (i : Next) → next_of kind.Room t ≡ Some i → Small i.worth
 unfolding worth_in
-room_small t x n e = few x (is_between (pos 0) (pos 255) x (value_of (take (length_to 32 (drop 1 t)) (drop 1 t))) (next_is kind.Room t x n e).0)
+room_small t i e = few i.worth (is_between (pos 0) (pos 255) i.worth (value_of (take (length_to 32 (drop 1 t)) (drop 1 t))) (next_is kind.Room t i e).0)
 
-two_digits : (a b : ℕ) (x : ℤ) → positive (digits_of 16 (a ∷ b ∷ [])) ≡ number.Is x → Small x
+-- two digits, the second's worth behind the first's
+module _ (x : ℤ) (d : ℕ) where
+  below_256 : (f : ℕ) → ltb d 16 ≡ true → (t : Bool) → ltb f 16 ≡ t → positive (up_to (2 ^ 63) (cond t (Some ((0 * 16 + d) * 16 + f)) None)) ≡ Some x → Small x
+  unfolding positive
+  below_256 f q true r e =
+      let n = (0 * 16 + d) * 16 + f in
+      let l : n ≤ 255 = omega (arith, ltb-true d 16 q, ltb-true f 16 r) in
+      let h = rw (le-leb n (2 ^ 63) (omega arith), lt-ltb n (2 ^ 63) (omega arith)) at e in
+      let p : pos n ≡ x = cc h in
+      rw (← p) (small n l)
+  below_256 f q false r e = let z : ◌≡◌ {A = ℕ} 0 1 = cc in absurd (omega arith)
+
+  behind_first : (s : Bool) → ltb d 16 ≡ s → (p : Option ℕ) →
+      positive (up_to (2 ^ 63) (cond s (at_digit 16 p (λ f. Some ((0 * 16 + d) * 16 + f))) None)) ≡ Some x → Small x
+  unfolding positive
+  behind_first true q (Some f) e = below_256 f q (ltb f 16) refl e
+  behind_first true q None e = let z : ◌≡◌ {A = ℕ} 0 1 = cc in absurd (omega arith)
+  behind_first false q p e = let z : ◌≡◌ {A = ℕ} 0 1 = cc in absurd (omega arith)
+
+two_digits : (a b : ℕ) (x : ℤ) → positive (digits_of 16 (a ∷ b ∷ [])) ≡ Some x → Small x
 unfolding digits_of worth_behind positive
-two_digits a b x e = by (ltb (digit_of a) 16) refl (ltb (digit_of b) 16) refl e
+two_digits a b x e = by (digit_of a) e
   where
-    by : (s : Bool) → ltb (digit_of a) 16 ≡ s → (t : Bool) → ltb (digit_of b) 16 ≡ t →
-        positive (up_to (2 ^ 63) (cond s (cond t (worth.Is ((0 * 16 + digit_of a) * 16 + digit_of b)) worth.Not) worth.Not)) ≡ number.Is x → Small x
-    by true s true t e =
-        let n = (0 * 16 + digit_of a) * 16 + digit_of b in
-        let l : n ≤ 255 = omega (arith, ltb-true (digit_of a) 16 s, ltb-true (digit_of b) 16 t) in
-        let h = rw (le-leb n (2 ^ 63) (omega arith), lt-ltb n (2 ^ 63) (omega arith)) at e in
-        let q : pos n ≡ x = cc h in
-        rw (← q) (small n l)
-    by true s false t e = let z : ◌≡◌ {A = ℕ} 0 1 = cc in absurd (omega arith)
-    by false s t u e = let z : ◌≡◌ {A = ℕ} 0 1 = cc in absurd (omega arith)
+    by : (o : Option ℕ) → positive (up_to (2 ^ 63) (at_digit 16 o (λ d. at_digit 16 (digit_of b) (λ f. Some ((0 * 16 + d) * 16 + f))))) ≡ Some x → Small x
+    by (Some d) e = behind_first x d (ltb d 16) refl (digit_of b) e
+    by None e = let z : ◌≡◌ {A = ℕ} 0 1 = cc in absurd (omega arith)
 
-pair_small : (item : List ℕ) (x : ℤ) → pair_of item ≡ number.Is x → Small x
+pair_small : (item : List ℕ) (x : ℤ) → pair_of item ≡ Some x → Small x
 unfolding pair_of
 pair_small [] x e = let z : ◌≡◌ {A = ℕ} 0 1 = cc in absurd (omega arith)
 pair_small (a ∷ []) x e = let z : ◌≡◌ {A = ℕ} 0 1 = cc in absurd (omega arith)
@@ -110,9 +135,9 @@ pair_small (a ∷ b ∷ c ∷ cs) x e =
     let z : ◌≡◌ {A = ℕ} 0 1 = cc h in
     absurd (omega arith)
 
-pub byte_small : (t : List ℕ) (x : ℤ) (n : ℕ) → next_of kind.Byte t ≡ next.Number x n → Small x
+pub byte_small : (t : List ℕ) (i : Next) → next_of kind.Byte t ≡ Some i → Small i.worth
 unfolding worth_in
-byte_small t x n e = pair_small (take (length_to 32 (drop 1 t)) (drop 1 t)) x (next_is kind.Byte t x n e).0
+byte_small t i e = pair_small (take (length_to 32 (drop 1 t)) (drop 1 t)) i.worth (next_is kind.Byte t i e).0
 
 -- ---- so many of one kind
 module _ (k : Kind) where
@@ -151,23 +176,24 @@ module _ (ks : List Kind) (text : List ℕ) (was : List ℤ) where
     unfolding row_of
     row_next = rw (drop-cons ks count d, add-one) refl
 
-    module _ (x : ℤ) (n : ℕ) (e : next_of (get_or ks count d) (drop at text) ≡ next.Number x n) where
-      turn : row_of (drop count ks) (drop at text) ≡ record { values = x ∷ (row_of (drop (count + 1) ks) (drop (at + n) text)).values; bytes = n + (row_of (drop (count + 1) ks) (drop (at + n) text)).bytes }
+    module _ (i : Next) (e : next_of (get_or ks count d) (drop at text) ≡ Some i) where
+      turn : row_of (drop count ks) (drop at text)
+          ≡ record { values = i.worth ∷ (row_of (drop (count + 1) ks) (drop (at + i.taken) text)).values; bytes = i.taken + (row_of (drop (count + 1) ks) (drop (at + i.taken) text)).bytes }
       turn = rw (row_next, e, drop-drop) refl
 
-      pub further : Going (set into count x) (count + 1) (at + n)
+      pub further : Going (set into count i.worth) (count + 1) (at + i.taken)
       further =
           let l : count < length into = omega (arith, g.long) in
           record {
-            inside = omega (arith, length-drop at text, g.inside, next_within (get_or ks count d) (drop at text) x n e);
+            inside = omega (arith, length-drop at text, g.inside, next_within (get_or ks count d) (drop at text) i e);
             room = omega arith;
             long = simp length-set g.long;
             values = rw (add-one, take-suc-set) (rw (append_assoc, ← add-one) (ap (λ (r : Numbers). take count into ++ r.values) (sym turn) ∙ g.values));
             bytes = rw add_assoc (ap (λ (r : Numbers). at + r.bytes) (sym turn) ∙ g.bytes);
-            behind = drop-set-lt (count + 1) into count x (omega arith) ∙ sym (drop-drop 1 count into) ∙ ap (drop 1) g.behind ∙ drop-drop 1 count was;
+            behind = drop-set-lt (count + 1) into count i.worth (omega arith) ∙ sym (drop-drop 1 count into) ∙ ap (drop 1) g.behind ∙ drop-drop 1 count was;
           }
 
-    pub another : next_of (get_or ks count d) (drop at text) ≡ next.Not → row_of (drop count ks) (drop at text) ≡ none
+    pub another : next_of (get_or ks count d) (drop at text) ≡ None → row_of (drop count ks) (drop at text) ≡ none
     another e = rw (row_next, e) refl
 
   -- no more
@@ -180,6 +206,9 @@ module _ (ks : List Kind) (text : List ℕ) (was : List ℤ) where
         bytes = omega (arith, g.bytes, ap (λ (r : Numbers). r.bytes) e);
         values = rw (v, l) (sym (take-append-drop count into) ∙ ap (λ (b : List ℤ). take count into ++ b) g.behind);
       }
+
+  pub ended_full : (into : List ℤ) (count at n : ℕ) → count ≡ n → Going into count at → row_of (drop count ks) (drop at text) ≡ none → Filled (record { count = n; taken = at }) was into (row_of ks text)
+  ended_full into count at n q g e = subst (λ (k : ℕ). Filled (record { count = k; taken = at }) was into (row_of ks text)) q (ended into count at g e)
 
 -- the numbers, taken out of the buffer
 pub taken_out : (r : Row) (was buffer : List ℤ) (row : Numbers) → Filled r was buffer row → take r.count buffer ≡ row.values
@@ -208,15 +237,15 @@ unfolding row_of
 row_count [] t = omega arith
 row_count (k ∷ ks) t = by (λ (n : ℕ). row_count ks (drop n t)) (next_of k t)
   where
-    by : ((n : ℕ) → length (row_of ks (drop n t)).values ≤ length ks) → (m : Next) → length (before m (λ n. row_of ks (drop n t))).values ≤ suc (length ks)
-    by h (next.Number x n) = suc-le-suc (h n)
-    by h next.Not = omega arith
+    by : ((n : ℕ) → length (row_of ks (drop n t)).values ≤ length ks) → (m : Option Next) → length (before m (λ n. row_of ks (drop n t))).values ≤ suc (length ks)
+    by h (Some i) = suc-le-suc (h i.taken)
+    by h None = omega arith
 
 pub row_within : (ks : List Kind) (t : List ℕ) → (row_of ks t).bytes ≤ length t
 unfolding row_of
 row_within [] t = omega arith
 row_within (k ∷ ks) t = by (λ (n : ℕ). row_within ks (drop n t)) (next_of k t) refl
   where
-    by : ((n : ℕ) → (row_of ks (drop n t)).bytes ≤ length (drop n t)) → (m : Next) → next_of k t ≡ m → (before m (λ n. row_of ks (drop n t))).bytes ≤ length t
-    by h (next.Number x n) e = omega (arith, h n, length-drop n t, next_within k t x n e)
-    by h next.Not e = omega arith
+    by : ((n : ℕ) → (row_of ks (drop n t)).bytes ≤ length (drop n t)) → (m : Option Next) → next_of k t ≡ m → (before m (λ n. row_of ks (drop n t))).bytes ≤ length t
+    by h (Some i) e = omega (arith, h i.taken, length-drop i.taken t, next_within k t i e)
+    by h None e = omega arith

@@ -3,8 +3,6 @@ pub mod TextLaws
 pub mod NumberLaws
 pub mod ItemLaws
 pub mod WordLaws
-pub mod UnreadLaws
-pub mod WhyLaws
 pub mod TurnLaws
 pub mod AnswerLaws
 pub mod SessionLaws

@@ -34,7 +34,7 @@ module _ (m : Module) (packet : List ℕ) (room : ℕ) where
       rw (le-leb (length b) room h) (ap (λ (t : List ℕ). ascii "ok" ++ bytes_text t ++ end) (front room b (replicate (255 - room) 0) h))
 
   refused : room < length (reply_bytes (poll_reply m packet)) → answer_text (polled_turn m packet room) ≡ refused_line 21
-  unfolding told_text said_text poll_of
+  unfolding told_text poll_of
   refused h = rw (lt-leb (length (reply_bytes (poll_reply m packet))) room h) refl
 
 pub says_reply : SaysReply

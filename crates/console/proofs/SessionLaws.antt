@@ -1,5 +1,5 @@
 -- Laws of a talk: a line's end, a line's bytes in several parts, and the whole in several reads.
-use Prim.Native.Nat.{ℕ, zero, suc, ◌+◌, ◌-◌, ◌≤◌, ◌<◌}
+use Prim.Native.Nat.{ℕ, zero, suc, ◌+◌, ◌-◌, ◌≤◌, ◌<◌, min}
 use mathlib.Core.Path.{◌≡◌, refl, sym, ap, ◌∙◌}
 use mathlib.Core.Bool.{Bool, true, false, not, cond}
 use mathlib.Core.List.{List, [], ◌∷◌, ◌++◌, append_assoc, append-nil}
@@ -17,16 +17,6 @@ use Rattle.console.specs.Answers.{answer_text}
 use Rattle.console.specs.Session.{Talk, silent, line_turn, ended, keeping, talked, begin, answers_to, OneTalk}
 
 -- ---- a line that has no answer
-pub silent_empty : (line : List ℕ) → length line ≡ 0 → true ≡ silent line
-unfolding silent
-silent_empty [] e = refl
-silent_empty (c ∷ cs) e = absurd (omega arith)
-
-pub silent_other : (line : List ℕ) → (length line ≡ 0 → ⊥) → eqb (get_or line 0 0) 35 ≡ silent line
-unfolding silent
-silent_other [] h = absurd (h refl)
-silent_other (c ∷ cs) h = refl
-
 -- ---- a line's end
 -- what is cut off a line that ends with a carriage return
 pub cut_return : (line : List ℕ) → take (length (without_return line)) line ≡ without_return line
@@ -166,10 +156,10 @@ one_talk = record { cut_anywhere = cut; written_first = talked_behind; answers_i
 
 -- ---- the buffers
 -- more bytes of a line put behind those that are kept: all, or as many as have room
-pub keeps_all : (line part : List ℕ) (kept : ℕ) → kept + length part ≤ length line → take (kept + length part) (put line kept part) ≡ take (length line) (take kept line ++ part)
+keeps_all : (line part : List ℕ) (kept : ℕ) → kept + length part ≤ length line → take (kept + length part) (put line kept part) ≡ take (length line) (take kept line ++ part)
 keeps_all line part kept l = front_put line part kept l ∙ sym (take_all (length line) (take kept line ++ part) (simp (length-append, length-take) (omega arith)))
 
-pub keeps_some : (line part : List ℕ) (kept : ℕ) → kept ≤ length line → length line - kept ≤ length part →
+keeps_some : (line part : List ℕ) (kept : ℕ) → kept ≤ length line → length line - kept ≤ length part →
     take (length line) (put line kept (take (length line - kept) part)) ≡ take (length line) (take kept line ++ part)
 keeps_some line part kept l h =
     let xs = take (length line - kept) part in
@@ -178,6 +168,22 @@ keeps_some line part kept l h =
     let e : kept + length xs ≡ length line = omega (arith, z) in
     let f : length (take kept line) + (length line - kept) ≡ length line = omega (arith, y) in
     rw e at (front_put line xs kept (omega (arith, z))) ∙ sym (rw f at (take-append-add (take kept line) part (length line - kept)))
+
+pub keeps : (line part : List ℕ) (kept n : ℕ) → kept ≤ length line → n ≡ min (length part) (length line - kept) →
+    take (kept + n) (put line kept (take n part)) ≡ take (length line) (take kept line ++ part)
+keeps line part kept n l e = go (leb (length part) (length line - kept)) (leb→le (length part) (length line - kept)) (nleb→lt (length part) (length line - kept))
+  where
+    go : (t : Bool) → (T t → length part ≤ length line - kept) → (T (not t) → length line - kept < length part) →
+        take (kept + n) (put line kept (take n part)) ≡ take (length line) (take kept line ++ part)
+    go true f g =
+        let h = f tt in
+        let q : n ≡ length part = omega arith in
+        rw (q, take_all (length part) part (omega arith)) (keeps_all line part kept (omega arith))
+    go false f g =
+        let h = g tt in
+        let q : n ≡ length line - kept = omega arith in
+        let r : kept + (length line - kept) ≡ length line = omega arith in
+        rw (q, r) (keeps_some line part kept l (omega arith))
 
 -- a line's bytes up to the next line feed
 module _ (part : List ℕ) (at r : ℕ) (feed : r ≡ length_to 10 (drop at part)) where

@@ -1,26 +1,26 @@
--- A turn of a loop over a text, and its end, for a word that it begins with and for the way to a byte.
-use Prim.Native.Nat.{ℕ, suc, ◌+◌, ◌-◌, ◌≤◌, ◌<◌, suc-le-suc}
-use mathlib.Core.Path.{◌≡◌, refl, sym}
+-- A word that a text begins with, and the way to a byte, as the searches of std find them.
+use Prim.Native.Nat.{ℕ, suc, ◌-◌, ◌≤◌, suc-le-suc}
+use mathlib.Core.Path.{◌≡◌, refl, ap}
 use mathlib.Core.Bool.{Bool, true, false, cond, ◌&&◌, false≢true}
 use mathlib.Core.List.{List, [], ◌∷◌}
-use native.Mathlib.Numerals.{add-one}
 use native.Mathlib.Omega.{arith}
-use lib.Dec.{eqb}
-use lib.ListN.{length, take, drop, get_or, length-drop, drop_of_length-le}
-use lib.Seq.{drop-cons, take_all, length-take-le}
-use borrow.Author.Tests.{eq-eqb, ne_eqb}
-use Rattle.console.specs.Texts.{begins_with, length_to, without_return}
+use lib.Dec.{eqb, ltb}
+use lib.ListN.{length, take, drop, length-drop}
+use lib.Seq.{take_all}
+use Rattle.std.proofs.lemmas.Bool.{ltb-false}
+use Rattle.std.specs.Cmp.Lexicographic.{pointwise}
+use Rattle.std.specs.Prelude.{Some, None}
+use Rattle.std.specs.Option.{unwrap_or}
+use Rattle.std.specs.List.{position_or_len}
+use Rattle.std.proofs.lemmas.List.Recursion.{is_position_or_len}
+use Rattle.console.specs.Texts.{begins_with, length_to}
 
-module _ (w t : List ℕ) (k : ℕ) (h : k < length w) (g : k < length t) where
-  begins_turn : begins_with (drop k w) (drop k t) ≡ (eqb (get_or t k 0) (get_or w k 0) && begins_with (drop (k + 1) w) (drop (k + 1) t))
-  unfolding begins_with
-  begins_turn = rw (drop-cons w k 0, drop-cons t k 0, add-one) refl
-
-  pub begins_agree : get_or t k 0 ≡ get_or w k 0 → begins_with (drop (k + 1) w) (drop (k + 1) t) ≡ begins_with (drop k w) (drop k t)
-  begins_agree e = rw (begins_turn, eq-eqb (get_or t k 0) (get_or w k 0) e) refl
-
-  pub begins_differ : (get_or t k 0 ≡ get_or w k 0 → ⊥) → begins_with (drop k w) (drop k t) ≡ false
-  begins_differ e = rw (begins_turn, ne_eqb (get_or t k 0) (get_or w k 0) e) refl
+-- what std's search for a prefix tells
+pub begins_is : (w t : List ℕ) → pointwise eqb (take (length w) t) w ≡ begins_with w t
+unfolding begins_with
+begins_is [] t = refl
+begins_is (w ∷ ws) [] = refl
+begins_is (w ∷ ws) (c ∷ cs) = ap (λ (b : Bool). eqb c w && b) (begins_is ws cs)
 
 pub and_left : (a b : Bool) → (a && b) ≡ true → a ≡ true
 and_left true b e = refl
@@ -30,28 +30,10 @@ pub and_right : (a b : Bool) → (a && b) ≡ true → b ≡ true
 and_right true b e = e
 and_right false b e = absurd (false≢true e)
 
-pub begins_short : (w t : List ℕ) (k : ℕ) → k < length w → length t ≤ k → begins_with (drop k w) (drop k t) ≡ false
-unfolding begins_with
-begins_short w t k h g = rw (drop-cons w k 0, drop_of_length-le t) refl
-
-pub begins_end : (w t : List ℕ) (k : ℕ) → length w ≤ k → begins_with (drop k w) t ≡ true
-unfolding begins_with
-begins_end w t k h = rw (drop_of_length-le w) refl
-
-module _ (stop : ℕ) (t : List ℕ) (k : ℕ) (h : k < length t) where
-  to_turn : length_to stop (drop k t) ≡ cond (eqb (get_or t k 0) stop) 0 (suc (length_to stop (drop (k + 1) t)))
-  unfolding length_to
-  to_turn = rw (drop-cons t k 0, add-one) refl
-
-  pub to_here : get_or t k 0 ≡ stop → length_to stop (drop k t) ≡ 0
-  to_here e = rw (to_turn, eq-eqb (get_or t k 0) stop e) refl
-
-  pub to_later : (get_or t k 0 ≡ stop → ⊥) → length_to stop (drop k t) ≡ suc (length_to stop (drop (k + 1) t))
-  to_later e = rw (to_turn, ne_eqb (get_or t k 0) stop e) refl
-
-pub to_end : (stop : ℕ) (t : List ℕ) (k : ℕ) → length t ≤ k → length_to stop (drop k t) ≡ 0
+-- and its search for a byte
+to_position : (stop : ℕ) (t : List ℕ) → length_to stop t ≡ position_or_len (λ c. eqb c stop) t
 unfolding length_to
-to_end stop t k h = rw (drop_of_length-le t) refl
+to_position stop t = is_position_or_len (length_to stop) (λ c. eqb c stop) refl (λ x xs. ap (cond (eqb x stop) 0) (omega arith)) t
 
 pub to_within : (stop : ℕ) (t : List ℕ) → length_to stop t ≤ length t
 unfolding length_to
@@ -61,6 +43,17 @@ to_within stop (c ∷ cs) = by (to_within stop cs) (eqb c stop)
     by : length_to stop cs ≤ length cs → (b : Bool) → cond b 0 (suc (length_to stop cs)) ≤ suc (length cs)
     by h true = omega arith
     by h false = omega arith
+
+found_or_all : (n k : ℕ) → k ≤ n → unwrap_or (cond (ltb k n) (Some k) None) n ≡ k
+found_or_all n k h = go (ltb k n) refl
+  where
+    go : (t : Bool) → ltb k n ≡ t → unwrap_or (cond t (Some k) None) n ≡ k
+    go true e = refl
+    go false e = omega (arith, ltb-false k n e)
+
+pub to_found : (stop : ℕ) (t : List ℕ) →
+    unwrap_or (cond (ltb (position_or_len (λ c. eqb c stop) t) (length t)) (Some (position_or_len (λ c. eqb c stop) t)) None) (length t) ≡ length_to stop t
+to_found stop t = rw (← to_position stop t) (found_or_all (length t) (length_to stop t) (to_within stop t))
 
 -- a word is no longer than a text that begins with it
 pub begins_within : (w t : List ℕ) → begins_with w t ≡ true → length w ≤ length t
@@ -72,17 +65,3 @@ begins_within (w ∷ ws) (c ∷ cs) h = suc-le-suc (begins_within ws cs (and_rig
 -- what a part of a text is that reaches to its end
 pub rest_of : (a : ℕ) (t : List ℕ) → take (length t - a) (drop a t) ≡ drop a t
 rest_of a t = take_all (length t - a) (drop a t) (simp length-drop (omega arith))
-
--- ---- a carriage return before a line's end
-pub none_to_cut : (line : List ℕ) → length line ≡ 0 → 0 ≡ length (without_return line)
-unfolding without_return
-none_to_cut [] e = refl
-none_to_cut (c ∷ cs) e = absurd (omega arith)
-
-pub one_return : (line : List ℕ) → get_or line (length line - 1) 0 ≡ 13 → length line - 1 ≡ length (without_return line)
-unfolding without_return
-one_return line e = simp (eq-eqb (get_or line (length line - 1) 0) 13 e) (sym (length-take-le (length line - 1) line (omega arith)))
-
-pub no_return : (line : List ℕ) → (get_or line (length line - 1) 0 ≡ 13 → ⊥) → length line ≡ length (without_return line)
-unfolding without_return
-no_return line h = simp (ne_eqb (get_or line (length line - 1) 0) 13 h)

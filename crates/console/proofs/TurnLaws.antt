@@ -1,44 +1,51 @@
 -- Items of a line, as a step gets them.
-use Prim.Native.Nat.{ℕ, zero, suc, ◌+◌, ◌-◌, ◌^◌, ◌≤◌, ◌<◌}
+use Prim.Native.Nat.{ℕ, zero, suc, ◌+◌, ◌-◌, ◌≤◌, ◌<◌}
 use mathlib.Core.Path.{◌≡◌, refl, sym, ap, ◌∙◌}
 use mathlib.Core.Bool.{true, false, ◌&&◌}
 use mathlib.Core.List.{List, [], ◌∷◌, ◌++◌, map, append-nil}
 use native.Mathlib.Omega.{arith}
 use lib.Dec.{eqb}
 use lib.IntN.{ℤ, pos}
-use lib.Signed.{mag}
-use lib.ListN.{length, take, drop, get_or, replicate, get_or-append, length-drop, length-replicate, replicate-append-replicate}
-use lib.Seq.{take_at, drop_at, drop-drop}
-use mir.Syntax.{w64}
-use mir.Val.{to_z, of_z}
-use mir.Facts.{to_z-of_z}
-use types.Run.{OneOf, miss}
-use denote.Enum.Declared.{tag_of}
+use lib.ListN.{length, take, drop, get_or, replicate, get_or-append, length-replicate, replicate-append-replicate}
+use lib.Seq.{take_at, drop_at}
 use borrow.Author.Tests.{lt-ltb, le-ltb}
 use Rattle.aberzhan.specs.declared.Module.{Module}
-use Rattle.aberzhan.specs.Module.{open_of, block_of}
-use Rattle.aberzhan.specs.Polling.{poll_buffer}
+use Rattle.std.specs.Prelude.{Result, Ok, Err}
+use Rattle.refusal.specs.declared.Refusal.{Refusal}
+use Rattle.steps.specs.Answers.{OrRefusal, refused, accepted, and_then, answer_of}
+use Rattle.aberzhan.specs.Module.{Outcome, stepped, open_of, block_of}
+use Rattle.aberzhan.specs.Polling.{poll_of, poll_buffer}
 use Rattle.console.specs.declared.words.Word.{Word}
 use Rattle.console.specs.declared.words.Word.TheVariants.{Start, Open, Write, Commit, Drop, Hold, Read, Poll, Block, Reset, Cards, Help, Other}
 use Rattle.console.specs.declared.unread.Why.{Why}
-use Rattle.console.specs.declared.unread.Why.TheVariants.{TooLong, NoStep, Missing}
+use Rattle.console.specs.declared.unread.Why.TheVariants.{TooLong, Missing}
 use Rattle.console.specs.declared.items.Row.{Row}
 use Rattle.console.specs.declared.turns.Reply.{Reply}
-use Rattle.console.specs.declared.turns.Turn.{Turn}
+use Rattle.console.specs.declared.turns.Said.{Said}
+use Rattle.console.specs.declared.turns.Said.TheVariants as said
 use Rattle.console.specs.Texts.{begins_with, length_to}
 use Rattle.console.specs.Items.{row_of, samples, bytes, Filled}
 use Rattle.console.specs.Words.{word_of, items_of, enough}
 use Rattle.console.specs.Unread.{stopped_before, slice_stopped, packet_stopped}
-use Rattle.console.specs.Turns.{no_reply, nth, unread_turn, stepped_turn, told_reply, polled_turn, items_turn, with_items, with_text, packet_turn}
+use Rattle.console.specs.Turns.{Turn, turned, answered_turn, nth, unread_turn, stepped_turn, told_reply, polled_turn, started_turn, items_turn, with_items, with_text, packet_turn}
 use Rattle.console.specs.Turns.{barred, slice_turn, s3_turn, word_turn, turn_of}
 use Rattle.console.specs.Inside.{Ended, Stopped}
-use Rattle.console.specs.contracts.words.Word as Word-type
-use Rattle.console.proofs.TextLaws.{begins_within}
 use Rattle.console.proofs.ItemLaws.{taken_out, packet_out}
 
--- a number that is read from the buffer is the number
-pub as_read : (x : List ℤ) (k : ℕ) → mag (nth x k) < 2 ^ 63 → to_z w64 (of_z w64 (nth x k)) ≡ nth x k
-as_read x k h = to_z-of_z {w = w64} {z = nth x k} (record { sfits = h })
+-- what is said of a step that answers nothing
+pub done_turn : (d : OrRefusal Said) (r : Result (Unit {0}) Refusal) (m : Module) (o : Outcome (Unit {0})) → d ≡ and_then (answer_of r) (λ u. said.Done) → stepped r m ≡ o →
+    record { said = d; after = m } ≡ stepped_turn o
+done_turn d r m o e f = ap (λ (s : OrRefusal Said). record { said = s; after = m }) e ∙ ap stepped_turn f
+
+-- a start that is refused, and one that is done
+module _ (m : Module) (o : Outcome (Unit {0})) where
+  pub start_refused : (n : ℕ) → o.answer ≡ refused n → record { said = refused n; after = m } ≡ started_turn m o
+  unfolding started_turn
+  start_refused n e = rw e refl
+
+  pub start_done : o.answer ≡ accepted tt → record { said = accepted said.Done; after = o.after } ≡ started_turn m o
+  unfolding started_turn
+  start_done e = rw e refl
 
 -- of a place that there is, whatever is read elsewhere
 pub any_default : (x : List ℤ) (k : ℕ) (d e : ℤ) → k < length x → get_or x k d ≡ get_or x k e
@@ -88,46 +95,7 @@ items_over m Cards x = refl
 items_over m Help x = refl
 items_over m Other x = refl
 
--- ---- an arm of a match that stands for several words, by their tags
--- a word without items of its own
-abbrev bare : List ℕ
-bare = 1 ∷ 7 ∷ 8 ∷ 12 ∷ []
-
-pub no_items : (m : Module) (w : Word) (x : List ℤ) → OneOf bare (tag_of Word-type.the_type w) → unread_turn m NoStep ≡ items_turn m w x
-no_items m Start x h = absurd (miss bare 0 tt h)
-no_items m Open x h = refl
-no_items m Write x h = absurd (miss bare 2 tt h)
-no_items m Commit x h = absurd (miss bare 3 tt h)
-no_items m Drop x h = absurd (miss bare 4 tt h)
-no_items m Hold x h = absurd (miss bare 5 tt h)
-no_items m Read x h = absurd (miss bare 6 tt h)
-no_items m Poll x h = refl
-no_items m Block x h = refl
-no_items m Reset x h = absurd (miss bare 9 tt h)
-no_items m Cards x h = absurd (miss bare 10 tt h)
-no_items m Help x h = absurd (miss bare 11 tt h)
-no_items m Other x h = refl
-
 -- a word whose items are numbers and names alone
-abbrev itemed : List ℕ
-itemed = 0 ∷ 2 ∷ 3 ∷ 4 ∷ 5 ∷ 6 ∷ 9 ∷ 10 ∷ 11 ∷ []
-
-pub with_items_lem : (a b c : ℕ) (m : Module) (w : Word) (rest : List ℕ) → OneOf itemed (tag_of Word-type.the_type w) → with_items m w rest ≡ word_turn a b c m w rest
-with_items_lem a b c m Start rest h = refl
-with_items_lem a b c m Open rest h = absurd (miss itemed 1 tt h)
-with_items_lem a b c m Write rest h = refl
-with_items_lem a b c m Commit rest h = refl
-with_items_lem a b c m Drop rest h = refl
-with_items_lem a b c m Hold rest h = refl
-with_items_lem a b c m Read rest h = refl
-with_items_lem a b c m Poll rest h = absurd (miss itemed 7 tt h)
-with_items_lem a b c m Block rest h = absurd (miss itemed 8 tt h)
-with_items_lem a b c m Reset rest h = refl
-with_items_lem a b c m Cards rest h = refl
-with_items_lem a b c m Help rest h = refl
-with_items_lem a b c m Other rest h = absurd (miss itemed 12 tt h)
-
--- the same of a word that is none of the others
 pub with_items_by_words :
     (a b c : ℕ) (m : Module) (w : Word) (rest : List ℕ) → (w ≡ Open → ⊥) → (w ≡ Poll → ⊥) → (w ≡ Block → ⊥) → (w ≡ Other → ⊥) →
     with_items m w rest ≡ word_turn a b c m w rest
@@ -176,23 +144,34 @@ module _ (m : Module) (rest : List ℕ) (r : Row) (was b : List ℤ) (f : Filled
 -- ---- a line with a packet
 -- the reply is put at the front of bytes that are 0
 module _ (m : Module) (packet : List ℕ) (room : ℕ) (h : room ≤ 255) where
-  halves : no_reply.bytes ≡ replicate room 0 ++ replicate (255 - room) 0
-  unfolding no_reply
+  abbrev nothing : List ℕ
+  nothing = replicate 255 0
+
+  halves : nothing ≡ replicate room 0 ++ replicate (255 - room) 0
   halves =
       let e : room + (255 - room) ≡ 255 = omega arith in
       sym (replicate-append-replicate room (255 - room) 0 ∙ ap (λ (n : ℕ). replicate n 0) e)
 
-  front : take room no_reply.bytes ≡ replicate room 0
+  front : take room nothing ≡ replicate room 0
   front = ap (take room) halves ∙ take_at (replicate room 0) (replicate (255 - room) 0) room (length-replicate room 0)
 
-  back : drop room no_reply.bytes ≡ replicate (255 - room) 0
+  back : drop room nothing ≡ replicate (255 - room) 0
   back = ap (drop room) halves ∙ drop_at (replicate room 0) (replicate (255 - room) 0) room (length-replicate room 0)
 
-  pub reply_bytes : (r : Reply) (b : List ℕ) → r ≡ no_reply → b ≡ poll_buffer m packet (take room r.bytes) → b ++ drop room r.bytes ≡ (told_reply m packet room).bytes
+  reply_is : (z b : List ℕ) (n : ℕ) → z ≡ nothing → b ≡ poll_buffer m packet (take room z) → record { bytes = b ++ drop room z; length = n } ≡ told_reply m packet room n
   unfolding told_reply
-  reply_bytes r b q e =
-      ap (λ (t : List ℕ). t ++ drop room r.bytes) (e ∙ ap (poll_buffer m packet) (ap (λ (x : Reply). take room x.bytes) q ∙ front))
-      ∙ ap (λ (t : List ℕ). poll_buffer m packet (replicate room 0) ++ t) (ap (λ (x : Reply). drop room x.bytes) q ∙ back)
+  reply_is z b n q e =
+      ap (λ (t : List ℕ). record { bytes = t; length = n })
+      (ap (λ (t : List ℕ). t ++ drop room z) (e ∙ ap (poll_buffer m packet) (ap (take room) q ∙ front))
+      ∙ ap (λ (t : List ℕ). poll_buffer m packet (replicate room 0) ++ t) (ap (drop room) q ∙ back))
+
+  pub polled_says : (z b : List ℕ) (n : ℕ) (after : Module) → z ≡ nothing → b ≡ poll_buffer m packet (take room z) → stepped (Ok n) after ≡ poll_of m packet room →
+      turned (Ok (said.Polled (record { bytes = b ++ drop room z; length = n }))) after ≡ polled_turn m packet room
+  polled_says z b n after q e s =
+      ap (λ (t : Reply). turned (Ok (said.Polled t)) after) (reply_is z b n q e) ∙ ap (answered_turn (λ k. said.Polled (told_reply m packet room k))) s
+
+pub polled_no : (m : Module) (packet : List ℕ) (room : ℕ) (r : Refusal) (after : Module) → stepped (Err r) after ≡ poll_of m packet room → turned (Err r) after ≡ polled_turn m packet room
+polled_no m packet room r after s = ap (answered_turn (λ k. said.Polled (told_reply m packet room k))) s
 
 module _ (m : Module) (room : ℕ) (text : List ℕ) (r : Row) (was : List ℤ) (b : List ℕ) (f : Filled r was (map pos b) (row_of bytes text)) where
   pub odd_byte : r.taken < length text → unread_turn m (packet_stopped r.count) ≡ packet_turn m room text
@@ -206,13 +185,12 @@ module _ (m : Module) (room : ℕ) (text : List ℕ) (r : Row) (was : List ℤ) 
 -- ---- a line with samples
 -- a slice, once its samples stand in a buffer
 module _ (room : ℕ) (text : List ℕ) (r : Row) (was b : List ℤ) (f : Filled r was b (row_of (samples room) text)) where
-  pub slice_ends : barred (drop r.taken text) ≡ true → r.count ≤ length b → Ended r.count (r.taken + 2) room text b
-  slice_ends h l = record {
+  pub slice_ends : (rest : List ℕ) → barred (drop r.taken text) ≡ true → rest ≡ drop 2 (drop r.taken text) → r.count ≤ length b → Ended r.count rest room text b
+  slice_ends rest h e l = record {
     barred = ap (λ (n : ℕ). barred (drop n text)) (sym f.bytes) ∙ h;
     values = taken_out r was b (row_of (samples room) text) f;
-    behind = sym (drop-drop 2 r.taken text) ∙ ap (λ (n : ℕ). drop 2 (drop n text)) f.bytes;
+    behind = e ∙ ap (λ (n : ℕ). drop 2 (drop n text)) f.bytes;
     fits = l;
-    inside = omega (arith, begins_within (32 ∷ 124 ∷ []) (drop r.taken text) h, length-drop r.taken text);
   }
 
   pub slice_stops : (why : Why) → barred (drop r.taken text) ≡ false → why ≡ slice_stopped room r.count (drop r.taken text) → Stopped why room text
@@ -223,9 +201,9 @@ module _ (room : ℕ) (text : List ℕ) (r : Row) (was b : List ℤ) (f : Filled
 
 -- the turn that it makes
 module _ (room : ℕ) (m : Module) (text : List ℕ) (more : List ℤ → List ℕ → Turn) where
-  pub slice_more : (count at : ℕ) (b : List ℤ) → Ended count at room text b → more (take count b) (drop at text) ≡ slice_turn room m text more
+  pub slice_more : (count : ℕ) (rest : List ℕ) (b : List ℤ) → Ended count rest room text b → more (take count b) rest ≡ slice_turn room m text more
   unfolding slice_turn
-  slice_more count at b e = simp (e.values, e.behind, e.barred)
+  slice_more count rest b e = simp (e.values, e.behind, e.barred)
 
   pub slice_not : (why : Why) → Stopped why room text → unread_turn m why ≡ slice_turn room m text more
   unfolding slice_turn

@@ -8,68 +8,61 @@ use lib.Dec.{eqb, leb, ltb}
 use lib.IntN.{ℤ}
 use lib.ListN.{length, take, drop}
 use Rattle.card.specs.declared.Card.{Card}
-use Rattle.address.specs.declared.ByteAddr.{ByteAddr}
-use Rattle.interval.specs.declared.Closed.{Closed}
-use Rattle.steps.specs.Answers.{OrRefusal, refused, accepted}
-use Rattle.steps.specs.Gauge.{Metering}
+use Rattle.steps.specs.Answers.{OrRefusal, refused, accepted, and_then}
 use Rattle.steps.specs.Port.{Port}
-use Rattle.steps.specs.declared.Answer.{Answer}
-use Rattle.steps.specs.declared.Answer.TheVariants as answer
 use Rattle.alarm.specs.declared.Watch.{Watch}
-use Rattle.alarm.specs.declared.Reset.{Reset}
-use Rattle.alarm.specs.Alarms.{both, clearing, answered as watchAnswered, reset_of as watchReset}
-use Rattle.meter.specs.declared.Taken.{Taken}
-use Rattle.meter.specs.Core.{core}
-use Rattle.meter.specs.Blocks.{block_done, answered, volts_in, volts_of, block_of as meterBlock}
+use Rattle.alarm.specs.Alarms.{clearing}
+use Rattle.meter.specs.declared.Fed.{Fed}
+use Rattle.meter.specs.Blocks.{volts_of, block_of as meterBlock}
 use Rattle.port.specs.declared.Held.{Held}
 use Rattle.port.specs.Holds.{copied}
 use Rattle.packet.specs.Replies.{reply_bytes}
 use Rattle.desk.specs.declared.Desk.{Desk}
 use Rattle.desk.specs.Desks.{opening, writing, finished, dropping}
 use Rattle.aberzhan.specs.declared.Module.{Module}
-use Rattle.aberzhan.specs.declared.Stepped.{Stepped}
-use Rattle.aberzhan.specs.declared.Polled.{Polled}
-use Rattle.aberzhan.specs.Module.{desk_of, watch_of, with_meter, with_watch, port_at, at_port, refusal, at_desk, committing, not_held, holding}
-use Rattle.aberzhan.specs.Module.{open_of, write_of, commit_of, drop_of, hold_of, read_of, block_of, reset_of}
+use Rattle.aberzhan.specs.Module.{desk_of, watch_of, port_at, at_port, refusal, at_desk, committing, holding, feeding, resetting, Outcome}
+use Rattle.aberzhan.specs.Module.{open_of, write_of, commit_of, drop_of, hold_of, block_of, reset_of}
 use Rattle.aberzhan.specs.Polling.{poll_reply, after_reply, poll_of}
 use Rattle.console.specs.declared.words.Kind.TheVariants as kind
+use Rattle.std.specs.Prelude.{Option as Maybe, Some, None}
 use Rattle.console.specs.declared.items.Next.{Next}
-use Rattle.console.specs.declared.items.Next.TheVariants as next
 use Rattle.console.specs.declared.words.Word.{Word}
 use Rattle.console.specs.declared.words.Word.TheVariants as word
 use Rattle.console.specs.declared.turns.Said.{Said}
 use Rattle.console.specs.declared.turns.Said.TheVariants as said
-use Rattle.console.specs.declared.turns.Turn.{Turn}
 use Rattle.console.specs.declared.unread.Why.TheVariants as why
 use Rattle.console.specs.Texts.{begins_with, length_to}
 use Rattle.console.specs.Words.{word_of, items_of, enough}
 use Rattle.console.specs.Items.{next_of, row_of, samples, bytes, packet_of}
 use Rattle.console.specs.Unread.{stopped_before, slice_stopped, packet_stopped}
-use Rattle.console.specs.Turns.{unread_turn, said_of, stepped_turn, held_turn, polled_said, polled_turn, begun_by, started_turn, nth, items_turn, with_items, with_text}
+use Rattle.console.specs.Turns.{Turn, unread_turn, answered_turn, stepped_turn, held_turn, told_reply, polled_turn, begun_by, started_turn, nth, items_turn, with_items, with_text}
 use Rattle.console.specs.Turns.{packet_turn, behind_room, with_packet, barred, slice_turn, s3_turn, s1_turn, with_samples, word_turn, turn_of}
 use Rattle.console.specs.Session.{line_turn}
 use Rattle.console.specs.Unchanged.{ChangesNothing}
 
 -- what is said says no
-abbrev says_no : Said → Bool
-says_no (said.Unread why) = true
-says_no (said.Refused n) = true
-says_no said.Done = false
-says_no (said.Value x) = false
-says_no said.Held = false
-says_no said.Polled = false
-says_no said.Cards = false
-says_no said.Help = false
+abbrev is_unread : Said → Bool
+is_unread (said.Unread why) = true
+is_unread said.Done = false
+is_unread (said.Value x) = false
+is_unread (said.Held h) = false
+is_unread (said.Polled r) = false
+is_unread (said.Cards c) = false
+is_unread said.Help = false
+
+abbrev says_no : OrRefusal Said → Bool
+says_no (refused n) = true
+says_no (accepted s) = is_unread s
 
 abbrev Keeps : Module → Turn → Type 0
-Keeps m t = says_no t.told.said ≡ true → t.after ≡ m
+Keeps m t = says_no t.said ≡ true → t.after ≡ m
 
 either : (m : Module) (b : Bool) (x y : Turn) → Keeps m x → Keeps m y → Keeps m (cond b x y)
 either m true x y p q = p
 either m false x y p q = q
 
 -- ---- steps
-at_port_lem : (m : Module) (o : Option Port) (act : Port → Stepped) → ((p : Port) → Keeps m (stepped_turn (act p))) → Keeps m (stepped_turn (at_port o (refusal 8 m) act))
+at_port_lem : (m : Module) (o : Option Port) (act : Port → Outcome (Unit {0})) → ((p : Port) → Keeps m (stepped_turn (act p))) → Keeps m (stepped_turn (at_port o (refusal 8 m) act))
 at_port_lem m none act h e = refl
 at_port_lem m (some p) act h e = h p e
 
@@ -108,57 +101,42 @@ hold_kept m port = by (port_at port)
     copy : OrRefusal Held
     copy = copied m.meter.work.any m.meter.work.last m.meter.work.settings.track
 
-    by : (o : Option Port) → Keeps m (held_turn (at_port o (not_held 8 m) (λ p. holding m p copy)))
+    by : (o : Option Port) → Keeps m (held_turn (at_port o (refusal 8 m) (λ p. holding m p copy)))
     by none e = refl
     by (some p) e = holds m p copy e
 
--- a block's turn by what came of it at the meter
-abbrev taken : Module → Taken → List ℤ → Turn
-taken m r volts = stepped_turn (record { answer = r.answer; after = with_meter r.after (with_watch (both r.watch volts) m) })
-
 block_kept : (m : Module) (v s1 s3 : List ℤ) → Keeps m (stepped_turn (block_of m v s1 s3))
-unfolding block_of meterBlock volts_of
-block_kept m v s1 s3 = by (block_done m.meter (watch_of m) v s1 s3)
+unfolding block_of
+block_kept m v s1 s3 = by (meterBlock m.meter (watch_of m) v s1 s3)
   where
-    by : (r : OrRefusal (Metering core × List Closed)) → Keeps m (taken m (answered m.meter (watch_of m) r) (volts_in (watch_of m) r))
+    by : (r : OrRefusal Fed) → Keeps m (stepped_turn (feeding m (volts_of m.meter (watch_of m) v s1 s3) r))
     by (refused n) e = refl
-    by (accepted x) e = absurd (false≢true e)
-
--- a reset's turn by what came of it at the watch
-abbrev cleared : Module → Reset → Turn
-cleared m r = stepped_turn (record { answer = r.answer; after = with_watch (both r.after m.volts) m })
+    by (accepted f) e = absurd (false≢true e)
 
 reset_kept : (m : Module) (mask : ℤ) → Keeps m (stepped_turn (reset_of m mask))
-unfolding reset_of watchReset
+unfolding reset_of
 reset_kept m mask = by (clearing m.watch mask)
   where
-    by : (r : OrRefusal Watch) → Keeps m (cleared m (watchAnswered m.watch r))
+    by : (r : OrRefusal Watch) → Keeps m (stepped_turn (resetting m r))
     by (refused n) e = refl
     by (accepted a) e = absurd (false≢true e)
 
-start_kept : (m : Module) (s : Stepped) → Keeps m (started_turn m s)
+start_kept : (m : Module) (s : Outcome (Unit {0})) → Keeps m (started_turn m s)
 unfolding started_turn
 start_kept m s = by s.answer
   where
-    by : (a : Answer) → says_no (said_of a) ≡ true → begun_by a s.after m ≡ m
-    by answer.Done e = absurd (false≢true e)
-    by (answer.Refused n) e = refl
-
-read_kept : (m : Module) (port : ℤ) (a : ByteAddr) → (read_of m port a).after ≡ m
-unfolding read_of
-read_kept m port a = refl
-
--- a poll by whether its reply fits
-abbrev answering : Module → List ℕ → Bool → Polled
-answering m packet fits =
-    let r = poll_reply m packet in
-    cond fits (record { answer = answer.Done; length = length (reply_bytes r); after = after_reply r m }) (record { answer = answer.Refused 21; length = 0; after = m })
+    by : (a : OrRefusal (Unit {0})) → says_no (and_then a (λ u. said.Done)) ≡ true → begun_by a s.after m ≡ m
+    by (refused n) e = refl
+    by (accepted u) e = absurd (false≢true e)
 
 poll_kept : (m : Module) (packet : List ℕ) (room : ℕ) → Keeps m (polled_turn m packet room)
 unfolding poll_of
 poll_kept m packet room = by (leb (length (reply_bytes (poll_reply m packet))) room)
   where
-    by : (fits : Bool) → says_no (polled_said (answering m packet fits).answer) ≡ true → (answering m packet fits).after ≡ m
+    outcome : Bool → Outcome ℕ
+    outcome fits = let r = poll_reply m packet in cond fits (record { answer = accepted (length (reply_bytes r)); after = after_reply r m }) (refusal 21 m)
+
+    by : (fits : Bool) → Keeps m (answered_turn (λ n. said.Polled (told_reply m packet room n)) (outcome fits))
     by true e = absurd (false≢true e)
     by false e = refl
 
@@ -169,7 +147,7 @@ items_kept m word.Write x = write_kept m _ _ _
 items_kept m word.Commit x = commit_kept m _
 items_kept m word.Drop x = drop_kept m _
 items_kept m word.Hold x = hold_kept m _
-items_kept m word.Read x = λ e. read_kept m _ _
+items_kept m word.Read x = λ e. refl
 items_kept m word.Reset x = reset_kept m _
 items_kept m word.Cards x = λ e. refl
 items_kept m word.Help x = λ e. refl
@@ -208,9 +186,9 @@ poll_line_kept : (m : Module) (rest : List ℕ) → Keeps m (with_packet m rest)
 unfolding with_packet
 poll_line_kept m rest = by (next_of kind.Room rest)
   where
-    by : (n : Next) → Keeps m (behind_room m rest n)
-    by (next.Number room n) = packet_kept m _ (drop n rest)
-    by next.Not = λ e. refl
+    by : (n : Maybe Next) → Keeps m (behind_room m rest n)
+    by (Some i) = packet_kept m _ (drop i.taken rest)
+    by None = λ e. refl
 
 s3_kept : (c : ℕ) (m : Module) (v s1 : List ℤ) (text : List ℕ) → Keeps m (s3_turn c m v s1 text)
 unfolding s3_turn

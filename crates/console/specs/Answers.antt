@@ -7,12 +7,12 @@ use Rattle.sample.specs.declared.Clips.{Clips}
 use Rattle.alarm.specs.declared.Alarms.{Alarms}
 use Rattle.decimal.specs.Decimals.{decimal, signed_decimal}
 use Rattle.refusal.specs.Words.{words_of}
+use Rattle.steps.specs.Answers.{OrRefusal, refused, accepted}
 use Rattle.console.specs.declared.unread.Why.{Why}
 use Rattle.console.specs.declared.turns.Said.{Said}
 use Rattle.console.specs.declared.turns.Said.TheVariants as said
 use Rattle.console.specs.declared.turns.Reply.{Reply}
-use Rattle.console.specs.declared.turns.Told.{Told}
-use Rattle.console.specs.declared.turns.Turn.{Turn}
+use Rattle.console.specs.Turns.{Turn}
 use Rattle.console.specs.Unread.{why_words}
 
 -- a line's end
@@ -108,20 +108,21 @@ lines_of (s ∷ ss) = ascii s ++ end ++ lines_of ss
 unfoldable pub help_text : List ℕ
 help_text = lines_of help_lines
 
--- what is said; a hold says a number, a serial, counts and alarms, a poll a reply, and `cards` two serials
-unfoldable pub said_text : Said → Told → List ℕ
-said_text (said.Unread why) t = unread_line why
-said_text (said.Refused n) t = refused_line n
-said_text said.Done t = ok_line
-said_text (said.Value x) t = value_line x
-said_text said.Held t = held_line t.number t.serial t.clips t.alarms
-said_text said.Polled t = reply_line t.reply
-said_text said.Cards t = cards_line t.serial t.waiting
-said_text said.Help t = help_text
+-- what is said
+unfoldable pub said_text : Said → List ℕ
+said_text (said.Unread why) = unread_line why
+said_text said.Done = ok_line
+said_text (said.Value x) = value_line x
+said_text (said.Held h) = held_line h.number h.serial h.clips h.alarms
+said_text (said.Polled reply) = reply_line reply
+said_text (said.Cards c) = cards_line c.force c.waiting
+said_text said.Help = help_text
 
-unfoldable pub told_text : Told → List ℕ
-told_text t = said_text t.said t
+-- or the refusal
+unfoldable pub told_text : OrRefusal Said → List ℕ
+told_text (refused n) = refused_line n
+told_text (accepted s) = said_text s
 
 -- the whole answer to a turn
 abbrev pub answer_text : Turn → List ℕ
-answer_text t = told_text t.told
+answer_text t = told_text t.said

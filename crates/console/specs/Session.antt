@@ -4,9 +4,8 @@ use Rattle.address.specs.Addresses.{word_addr}
 use Rattle.aberzhan.specs.declared.Module.{Module}
 use Rattle.aberzhan.specs.Module.{start_of}
 use Rattle.console.specs.declared.input.Session.{Session}
-use Rattle.console.specs.declared.turns.Turn.{Turn}
 use Rattle.console.specs.Texts.{without_return}
-use Rattle.console.specs.Turns.{asked_of, turn_of}
+use Rattle.console.specs.Turns.{Turn, asked_of, turn_of}
 use Rattle.console.specs.Answers.{answer_text}
 
 -- the module, the bytes of a line that has not ended, and the answers that are not yet written

@@ -1,33 +1,23 @@
 -- What a line comes to: the step that it is, handed to the module, and what is said of it.
-use Rattle.std.specs.Prelude.{ℕ, ◌-◌, Bool, cond, ◌&&◌, List, [], ◌∷◌, ◌++◌, eqb, ltb, ℤ, pos, nat_abs, length, take, drop, get_or, replicate}
-use Rattle.serial.specs.Serials.{no_serial}
+use Rattle.std.specs.Prelude.{ℕ, ◌-◌, Bool, cond, ◌&&◌, Option, Some, None, Result, List, [], ◌∷◌, ◌++◌, eqb, ltb, ℤ, pos, nat_abs, length, take, drop, get_or, replicate}
 use Rattle.address.specs.Addresses.{word_addr, byte_addr}
-use Rattle.sample.specs.Sums.{no_clips}
 use Rattle.alarm.specs.declared.Asked.{Asked}
-use Rattle.alarm.specs.Masks.{no_alarms}
-use Rattle.steps.specs.declared.Answer.{Answer}
-use Rattle.steps.specs.declared.Answer.TheVariants as answer
-use Rattle.port.specs.declared.Reading.{Reading}
-use Rattle.port.specs.declared.Reading.TheVariants as reading
+use Rattle.refusal.specs.declared.Refusal.{Refusal}
+use Rattle.steps.specs.Answers.{OrRefusal, refused, accepted, and_then, answer_of}
 use Rattle.aberzhan.specs.declared.Module.{Module}
-use Rattle.aberzhan.specs.declared.Stepped.{Stepped}
 use Rattle.aberzhan.specs.declared.Holding.{Holding}
-use Rattle.aberzhan.specs.declared.Looked.{Looked}
-use Rattle.aberzhan.specs.Module.{start_of, open_of, write_of, commit_of, drop_of, hold_of, read_of, block_of, reset_of}
+use Rattle.aberzhan.specs.Module.{Outcome, start_of, open_of, write_of, commit_of, drop_of, hold_of, read_of, block_of, reset_of}
 use Rattle.aberzhan.specs.Cards.{cards_of}
 use Rattle.aberzhan.specs.Polling.{poll_of, poll_buffer}
 use Rattle.console.specs.declared.words.Word.{Word}
 use Rattle.console.specs.declared.words.Word.TheVariants as word
 use Rattle.console.specs.declared.words.Kind.TheVariants as kind
 use Rattle.console.specs.declared.items.Next.{Next}
-use Rattle.console.specs.declared.items.Next.TheVariants as next
 use Rattle.console.specs.declared.unread.Why.{Why}
 use Rattle.console.specs.declared.unread.Why.TheVariants as why
 use Rattle.console.specs.declared.turns.Said.{Said}
 use Rattle.console.specs.declared.turns.Said.TheVariants as said
 use Rattle.console.specs.declared.turns.Reply.{Reply}
-use Rattle.console.specs.declared.turns.Told.{Told}
-use Rattle.console.specs.declared.turns.Turn.{Turn}
 use Rattle.console.specs.Texts.{begins_with, length_to}
 use Rattle.console.specs.Items.{next_of, row_of, samples, bytes, packet_of}
 use Rattle.console.specs.Words.{word_of, items_of, enough}
@@ -35,93 +25,54 @@ use Rattle.console.specs.Unread.{stopped_before, slice_stopped, packet_stopped}
 
 -- ---- what is said
 
--- no byte of 255
-unfoldable pub no_reply : Reply
-no_reply = record { bytes = replicate 255 0; length = 0 }
+-- what is said, or the refusal; and the module after the step
+pub record Turn : Type 0 where
+  pub said : OrRefusal Said
+  pub after : Module
 
--- without a number, serials, counts, alarms and a reply
-abbrev pub barely : Said → Told
-barely s = record { said = s; number = 0; serial = no_serial; clips = no_clips; alarms = no_alarms; waiting = no_serial; reply = no_reply }
+-- the same of what the code returns and leaves
+abbrev pub turned : Result Said Refusal → Module → Turn
+turned r m = record { said = answer_of r; after = m }
 
-abbrev pub plainly : Said → Module → Turn
-plainly s m = record { told = barely s; after = m }
+-- a turn that leaves the module as it came
+abbrev pub says : Said → Module → Turn
+says s m = record { said = accepted s; after = m }
 
 abbrev pub unread_turn : Module → Why → Turn
-unread_turn m why = plainly (said.Unread why) m
+unread_turn m why = says (said.Unread why) m
 
-abbrev pub said_of : Answer → Said
-said_of answer.Done = said.Done
-said_of (answer.Refused n) = said.Refused n
+-- what is said of a step's answer
+abbrev pub answered_turn : {A : Type 0} → (A → Said) → Outcome A → Turn
+answered_turn say o = record { said = and_then o.answer say; after = o.after }
 
-abbrev pub stepped_turn : Stepped → Turn
-stepped_turn s = plainly (said_of s.answer) s.after
-
-abbrev pub held_said : Answer → Said
-held_said answer.Done = said.Held
-held_said (answer.Refused n) = said.Refused n
+abbrev pub stepped_turn : Outcome (Unit {0}) → Turn
+stepped_turn o = answered_turn (λ u. said.Done) o
 
 -- an interval's number, its serial and its counts of clipped samples; and the alarms
-abbrev pub held_turn : Holding → Turn
-held_turn h = record {
-  told = record {
-    said = held_said h.answer;
-    number = h.number;
-    serial = h.serial;
-    clips = h.clips;
-    alarms = h.alarms;
-    waiting = no_serial;
-    reply = no_reply;
-  };
-  after = h.after;
-}
+abbrev pub held_turn : Outcome Holding → Turn
+held_turn o = answered_turn (λ h. said.Held h) o
 
-abbrev pub read_said : Reading → Said
-read_said (reading.Value x) = said.Value x
-read_said (reading.Refused n) = said.Refused n
-
-abbrev pub read_turn : Looked → Turn
-read_turn l = plainly (read_said l.answer) l.after
+abbrev pub read_turn : Module → OrRefusal ℤ → Turn
+read_turn m r = record { said = and_then r (λ x. said.Value x); after = m }
 
 -- the serials of the card in force and of the one that waits
 abbrev pub cards_turn : Module → Turn
-cards_turn m =
-    let c = cards_of m in
-    record {
-      told = record { said = said.Cards; number = 0; serial = c.force; clips = no_clips; alarms = no_alarms; waiting = c.waiting; reply = no_reply };
-      after = m;
-    }
-
-abbrev pub polled_said : Answer → Said
-polled_said answer.Done = said.Polled
-polled_said (answer.Refused n) = said.Refused n
+cards_turn m = says (said.Cards (cards_of m)) m
 
 -- the reply, of so many bytes, at the front of the room that is lent for it
-unfoldable pub told_reply : Module → List ℕ → ℕ → Reply
-told_reply m packet room = record { bytes = poll_buffer m packet (replicate room 0) ++ replicate (255 - room) 0; length = (poll_of m packet room).length }
+unfoldable pub told_reply : Module → List ℕ → ℕ → ℕ → Reply
+told_reply m packet room n = record { bytes = poll_buffer m packet (replicate room 0) ++ replicate (255 - room) 0; length = n }
 
 abbrev pub polled_turn : Module → List ℕ → ℕ → Turn
-polled_turn m packet room =
-    let p = poll_of m packet room in
-    record {
-      told = record {
-        said = polled_said p.answer;
-        number = 0;
-        serial = no_serial;
-        clips = no_clips;
-        alarms = no_alarms;
-        waiting = no_serial;
-        reply = told_reply m packet room;
-      };
-      after = p.after;
-    }
+polled_turn m packet room = answered_turn (λ n. said.Polled (told_reply m packet room n)) (poll_of m packet room)
 
 -- a refused start keeps the module that runs
-abbrev pub begun_by : Answer → Module → Module → Module
-begun_by answer.Done new m = new
-begun_by (answer.Refused n) new m = m
+abbrev pub begun_by : OrRefusal (Unit {0}) → Module → Module → Module
+begun_by (accepted u) new m = new
+begun_by (refused n) new m = m
 
-unfoldable pub started_turn : Module → Stepped → Turn
-started_turn m s = plainly (said_of s.answer) (begun_by s.answer s.after m)
+unfoldable pub started_turn : Module → Outcome (Unit {0}) → Turn
+started_turn m s = record { said = and_then s.answer (λ u. said.Done); after = begun_by s.answer s.after m }
 
 -- ---- steps with numbers and names alone
 
@@ -145,10 +96,10 @@ items_turn m word.Write x = stepped_turn (write_of m (nth x 0) (nth x 1) (nth x 
 items_turn m word.Commit x = stepped_turn (commit_of m (nth x 0))
 items_turn m word.Drop x = stepped_turn (drop_of m (nth x 0))
 items_turn m word.Hold x = held_turn (hold_of m (nth x 0))
-items_turn m word.Read x = read_turn (read_of m (nth x 0) (byte_addr (nth x 1)))
+items_turn m word.Read x = read_turn m (read_of m (nth x 0) (byte_addr (nth x 1)))
 items_turn m word.Reset x = stepped_turn (reset_of m (nth x 0))
 items_turn m word.Cards x = cards_turn m
-items_turn m word.Help x = plainly said.Help m
+items_turn m word.Help x = says said.Help m
 items_turn m word.Open x = unread_turn m why.NoStep
 items_turn m word.Poll x = unread_turn m why.NoStep
 items_turn m word.Block x = unread_turn m why.NoStep
@@ -179,9 +130,9 @@ packet_turn m room text =
     cond (ltb row.bytes (length text)) (unread_turn m (packet_stopped (length row.values)))
     (polled_turn m (packet_of row) room)
 
-abbrev pub behind_room : Module → List ℕ → Next → Turn
-behind_room m rest (next.Number room n) = packet_turn m (nat_abs room) (drop n rest)
-behind_room m rest next.Not = unread_turn m (stopped_before (items_of word.Poll) rest)
+abbrev pub behind_room : Module → List ℕ → Option Next → Turn
+behind_room m rest (Some i) = packet_turn m (nat_abs i.worth) (drop i.taken rest)
+behind_room m rest None = unread_turn m (stopped_before (items_of word.Poll) rest)
 
 unfoldable pub with_packet : Module → List ℕ → Turn
 with_packet m rest = behind_room m rest (next_of kind.Room rest)

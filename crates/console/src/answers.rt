@@ -1,19 +1,19 @@
 // The lines that answer a turn.
-ghost use Rattle.std.specs.Prelude.{◌≡◌, ◌++◌, ◌+◌, ◌≤◌, min, length, take};
-ghost use Rattle.serial.specs.Ascii.{ascii};
-ghost use Rattle.console.specs.Unread.{why_words};
-ghost use Rattle.console.specs.Inside.{place_of};
+ghost use Rattle.std.specs.Prelude.{◌≡◌, ◌++◌, ◌+◌, ◌≤◌, length, take};
 ghost use Rattle.console.specs.Answers.{unread_line, refused_line, value_line, count_text, clips_text, alarm_text, alarms_text, held_line, reply_line};
-ghost use Rattle.console.specs.Answers.{cards_line, help_text, told_text};
+ghost use Rattle.console.specs.Answers.{cards_line, help_text, said_text, told_text};
+ghost use Rattle.refusal.specs.Numbers.{number_of};
+ghost use Rattle.steps.specs.Answers.{answer_of};
 
-use super::output::{put, put_bytes, put_card, put_digits, put_number, put_words};
-use super::turns::{Reply, Said, Told};
+use super::output::{put, put_bytes, put_card, put_digits, put_number};
+use super::turns::{Reply, Said};
 use super::unread::Why;
+use aberzhan::{Cards, Holding};
 use alarm::Alarms;
+use refusal::Refusal;
 use sample::Clips;
-use serial::Serial;
 
-const HELP: [u8; 1566] = *b"\
+const HELP: &[u8] = b"\
     # start N B SLOT SLOT SLOT SLOT SLOT SLOT [W [VSAG [VSURGE [STICKY [CONFIG]]]]]: N samples an interval, energy buckets of B, six registers to track or 0\n\
     #   W samples in half a cycle, sag and surge levels or 0 (off), and the alarms that stay set: a mask as of reset; left out: 1 0 0 0\n\
     #   CONFIG, 0 to 255, makes the sources IA and IB of S1 and S3: 0x96 has IA S1 and IB S3; left out: 0, by which each is half of -S1 - S3\n\
@@ -32,79 +32,23 @@ const HELP: [u8; 1566] = *b"\
     # A terminal cuts a pasted line at 4,095 bytes: send long blocks from a file, or as several blocks.\n\
     # Numbers are decimal, or hexadecimal behind 0x. One space parts two items. A line that begins with # is a comment.\n";
 
-// A row of 48 bytes for each reason why a line is not read, spaces behind its words.
-const WHYS: [u8; 624] = *b"\
-    longer than 131,071 bytes                       \
-    no such step                                    \
-    an item missing                                 \
-    not a 64-bit number                             \
-    neither a 64-bit number nor a field's name      \
-    neither a 64-bit number nor a register's name   \
-    more items than the step has                    \
-    fewer than two bars                             \
-    more than 8,192 samples in a slice              \
-    not a 32-bit number                             \
-    not a number from 0 to 255                      \
-    not two hexadecimal digits                      \
-    more than 4,096 bytes                           \
-";
-
-// Where a text stands among the rows, and where it ends.
-#[derive(Clone, Copy)]
-pub struct Place {
-    pub from: usize,
-    pub to: usize,
-}
-
-fn place_of(why: Why) -> Place
-    ensures { result ≡ place_of why }
-{
-    match why {
-        Why::TooLong => Place { from: 0, to: 25 },
-        Why::NoStep => Place { from: 48, to: 60 },
-        Why::Missing => Place { from: 96, to: 111 },
-        Why::NotNumber => Place { from: 144, to: 163 },
-        Why::NotField => Place { from: 192, to: 234 },
-        Why::NotRegister => Place { from: 240, to: 285 },
-        Why::More => Place { from: 288, to: 316 },
-        Why::NoBar => Place { from: 336, to: 355 },
-        Why::TooMany => Place { from: 384, to: 418 },
-        Why::NotSample => Place { from: 432, to: 451 },
-        Why::NotRoom => Place { from: 480, to: 506 },
-        Why::NotByte => Place { from: 528, to: 554 },
-        Why::TooManyBytes => Place { from: 576, to: 597 },
-    }
-}
-
-// Why a line is not read, in words.
-fn put_why(out: &mut [u8], used: usize, why: Why) -> usize
-    requires { used + 48 ≤ length out.old }
-    ensures { (take result out.new ≡ take used out.old ++ ascii (why_words why)) × (result ≤ used + 48) }
-{
-    let rows = WHYS;
-    let p = place_of(why);
-    let from = p.from;
-    let to = p.to;
-    put(out, used, &rows[from..to])
-}
-
 fn unread_line(out: &mut [u8], used: usize, why: Why) -> usize
     requires { used + 64 ≤ length out.old }
     ensures { (take result out.new ≡ take used out.old ++ unread_line why) × (result ≤ used + 64) }
 {
     let a = put(out, used, b"UNREAD: ");
-    let b = put_why(out, a, why);
+    let b = put(out, a, why.words());
     put(out, b, b"\n")
 }
 
-fn refused_line(out: &mut [u8], used: usize, number: u8) -> usize
+fn refused_line(out: &mut [u8], used: usize, refusal: Refusal) -> usize
     requires { used + 80 ≤ length out.old }
-    ensures { (take result out.new ≡ take used out.old ++ refused_line number) × (result ≤ used + 80) }
+    ensures { (take result out.new ≡ take used out.old ++ refused_line (number_of refusal)) × (result ≤ used + 80) }
 {
     let a = put(out, used, b"REFUSED ");
-    let b = put_number(out, a, number as i64);
+    let b = put_number(out, a, refusal.number() as i64);
     let c = put(out, b, b": ");
-    let d = put_words(out, c, number as usize);
+    let d = put(out, c, refusal.words().as_bytes());
     put(out, d, b"\n")
 }
 
@@ -137,6 +81,7 @@ fn put_clips(out: &mut [u8], used: usize, clips: Clips) -> usize
 }
 
 // An alarm's word where it is set, else `-`.
+#[tactic(auto, unfolding(serial::specs::Ascii::ascii))]
 fn put_alarm(out: &mut [u8], used: usize, word: &[u8], set: bool) -> usize
     requires { (used + 5 ≤ length out.old) × (length word.now ≤ 5) }
     ensures { (take result out.new ≡ take used out.old ++ alarm_text word.now set) × (result ≤ used + 5) }
@@ -159,54 +104,40 @@ fn put_alarms(out: &mut [u8], used: usize, alarms: Alarms) -> usize
 }
 
 // An interval's number, its serial and its counts of clipped samples; and both alarms.
-fn held_line(
-    out: &mut [u8],
-    used: usize,
-    number: u32,
-    serial: Serial,
-    clips: Clips,
-    alarms: Alarms,
-) -> usize
+fn held_line(out: &mut [u8], used: usize, h: Holding) -> usize
     requires { used + 112 ≤ length out.old }
-    ensures { (take result out.new ≡ take used out.old ++ held_line number serial clips alarms) × (result ≤ used + 112) }
+    ensures { (take result out.new ≡ take used out.old ++ held_line h.number h.serial h.clips h.alarms) × (result ≤ used + 112) }
 {
     let a = put(out, used, b"ok ");
-    let b = put_number(out, a, number as i64);
+    let b = put_number(out, a, h.number as i64);
     let c = put(out, b, b" ");
-    let d = put_digits(out, c, serial);
-    let e = put_clips(out, d, clips);
-    let f = put_alarms(out, e, alarms);
+    let d = put_digits(out, c, h.serial);
+    let e = put_clips(out, d, h.clips);
+    let f = put_alarms(out, e, h.alarms);
     put(out, f, b"\n")
 }
 
-// As many bytes as a reply says that it has, but no more than there are.
-fn count_of(length: usize) -> usize
-    ensures { result ≡ min length 255 }
-{
-    if length < 255 { length } else { 255 }
-}
-
-// The bytes of a reply.
+// The bytes of a reply: as many as it says that it has, but no more than there are.
 fn reply_line(out: &mut [u8], used: usize, reply: Reply) -> usize
     requires { used + 768 ≤ length out.old }
     ensures { (take result out.new ≡ take used out.old ++ reply_line reply) × (result ≤ used + 768) }
 {
     let bytes = reply.bytes;
-    let n = count_of(reply.length);
+    let n = reply.length.min(255);
     let a = put(out, used, b"ok");
     let b = put_bytes(out, a, &bytes[..n]);
     put(out, b, b"\n")
 }
 
 // The serials of the card in force and of the one that waits.
-fn cards_line(out: &mut [u8], used: usize, force: Serial, waiting: Serial) -> usize
+fn cards_line(out: &mut [u8], used: usize, cards: Cards) -> usize
     requires { used + 64 ≤ length out.old }
-    ensures { (take result out.new ≡ take used out.old ++ cards_line force waiting) × (result ≤ used + 64) }
+    ensures { (take result out.new ≡ take used out.old ++ cards_line cards.force cards.waiting) × (result ≤ used + 64) }
 {
     let a = put(out, used, b"ok ");
-    let b = put_card(out, a, force);
+    let b = put_card(out, a, cards.force);
     let c = put(out, b, b" ");
-    let d = put_card(out, c, waiting);
+    let d = put_card(out, c, cards.waiting);
     put(out, d, b"\n")
 }
 
@@ -214,29 +145,32 @@ fn help_lines(out: &mut [u8], used: usize) -> usize
     requires { used + 1600 ≤ length out.old }
     ensures { (take result out.new ≡ take used out.old ++ help_text) × (result ≤ used + 1600) }
 {
-    let help = HELP;
-    put(out, used, &help)
+    put(out, used, HELP)
 }
 
-// What is said, behind the bytes that are used.
-pub(super) fn put_answer(out: &mut [u8], used: usize, t: Told) -> usize
+fn said_lines(out: &mut [u8], used: usize, said: Said) -> usize
     requires { used + 1600 ≤ length out.old }
-    ensures { (take result out.new ≡ take used out.old ++ told_text t) × (result ≤ used + 1600) }
+    ensures { (take result out.new ≡ take used out.old ++ said_text said) × (result ≤ used + 1600) }
 {
-    let said = t.said;
-    let serial = t.serial;
-    let clips = t.clips;
-    let alarms = t.alarms;
-    let waiting = t.waiting;
-    let reply = t.reply;
     match said {
         Said::Unread(why) => unread_line(out, used, why),
-        Said::Refused(n) => refused_line(out, used, n),
         Said::Done => put(out, used, b"ok\n"),
         Said::Value(x) => value_line(out, used, x),
-        Said::Held => held_line(out, used, t.number, serial, clips, alarms),
-        Said::Polled => reply_line(out, used, reply),
-        Said::Cards => cards_line(out, used, serial, waiting),
+        Said::Held(h) => held_line(out, used, h),
+        Said::Polled(reply) => reply_line(out, used, reply),
+        Said::Cards(cards) => cards_line(out, used, cards),
         Said::Help => help_lines(out, used),
+    }
+}
+
+// What is said, or the refusal, behind the bytes that are used.
+#[tactic(auto, unfolding(crate::specs::Answers::told_text))]
+pub(super) fn put_answer(out: &mut [u8], used: usize, answer: Result<Said, Refusal>) -> usize
+    requires { used + 1600 ≤ length out.old }
+    ensures { (take result out.new ≡ take used out.old ++ told_text (answer_of answer)) × (result ≤ used + 1600) }
+{
+    match answer {
+        Ok(said) => said_lines(out, used, said),
+        Err(refusal) => refused_line(out, used, refusal),
     }
 }

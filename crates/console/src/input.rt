@@ -1,5 +1,5 @@
 // Standard input, taken apart into lines. A line may come in several reads, so its bytes are kept until its end.
-ghost use Rattle.std.specs.Prelude.{◌≡◌, true, ◌++◌, ◌+◌, ◌≤◌, length, take};
+ghost use Rattle.std.specs.Prelude.{◌≡◌, ◌++◌, ◌+◌, ◌≤◌, length, take};
 ghost use Rattle.console.specs.Session.{Ready, Rooms, fresh, talk_of, ended, talked, written, silent};
 
 use super::answers::put_answer;
@@ -19,16 +19,10 @@ pub struct Session {
     pub used: usize,
 }
 
-// A session and whether there may be more input.
-#[derive(Clone, Copy)]
-pub struct More {
-    pub session: Session,
-    pub more: bool,
-}
-
 // Before any start the module is that of a refused one.
-fn begun() -> More
-    ensures { result ≡ record { session = record { «module» = fresh; kept = 0; used = 0 }; more = true } }
+#[tactic(auto, unfolding(crate::specs::Session::fresh))]
+fn begun() -> Session
+    ensures { result ≡ record { «module» = fresh; kept = 0; used = 0 } }
 {
     let off = word_addr(0);
     let lowest = Asked {
@@ -38,15 +32,10 @@ fn begun() -> More
         sticky: 0,
     };
     let s = Module::start(0, 0, [off; 6], lowest, 0);
-    let module = s.after;
-    let session = Session {
-        module,
+    Session {
+        module: s.module,
         kept: 0,
         used: 0,
-    };
-    More {
-        session,
-        more: true,
     }
 }
 
@@ -56,23 +45,20 @@ fn keep(line: &mut [u8], kept: usize, part: &[u8]) -> usize
     ensures line_after { take result line.new ≡ take (length line.old) (take kept line.old ++ part.now) }
     ensures upper_bound { result ≤ length line.old }
 {
-    let room = line.len() - kept;
-    if part.len() <= room {
-        serial::put_at(line, kept, part);
-        return kept + part.len();
-    }
-    serial::put_at(line, kept, &part[..room]);
-    line.len()
+    let n = part.len().min(line.len() - kept);
+    serial::put_at(line, kept, &part[..n]);
+    kept + n
 }
 
 // Whether a line has no answer: an empty one, and a comment.
+#[tactic(auto, unfolding(crate::specs::Session::silent))]
 fn is_silent(line: &[u8]) -> bool
     ensures { result ≡ silent line.now }
 {
-    if line.len() == 0 {
-        return true;
+    match line {
+        [] => true,
+        [first, ..] => *first == b'#',
     }
-    line[0] == b'#'
 }
 
 // At a line's end.
@@ -94,12 +80,8 @@ fn end_line(
     if is_silent(&line[..n]) {
         return s;
     }
-    let t = take_line(s.module, &line[..n], v, s1, s3);
-    let told = t.told;
-    let used = put_answer(out, s.used, told);
-    s.used = used;
-    let after = t.after;
-    s.module = after;
+    let answer = take_line(&mut s.module, &line[..n], v, s1, s3);
+    s.used = put_answer(out, s.used, answer);
     s
 }
 
@@ -132,15 +114,14 @@ fn take_part(
     s
 }
 
-// Writes the answers out; an output that takes no more ends the session.
-fn write_out(rt: &(impl Print + Eprint), mut s: Session, out: &[u8]) -> More
-    requires { s.used ≤ length out.now }
-    ensures { result.session ≡ written s }
+// Writes the answers out, and gives whether the output takes more.
+fn write_out(rt: &(impl Print + Eprint), s: &mut Session, out: &[u8]) -> bool
+    requires { s.old.used ≤ length out.now }
+    ensures { s.new ≡ written s.old }
 {
     let used = s.used;
     s.used = 0;
-    let more = print(rt, &out[..used]);
-    More { session: s, more }
+    print(rt, &out[..used])
 }
 
 fn print(rt: &(impl Print + Eprint), text: &[u8]) -> bool {
@@ -174,30 +155,49 @@ fn read_chunk(rt: &impl Eprint, input: &mut impl Read, chunk: &mut [u8]) -> usiz
     }
 }
 
-// One read. Its answers are written before the next, so that whoever types sees each answer.
+// One read, and whether another may follow. Its answers are written before the next, so that whoever types sees each answer.
 fn read_some(
     rt: &(impl Print + Eprint),
     input: &mut impl Read,
-    mut s: Session,
+    s: &mut Session,
     chunk: &mut [u8],
     line: &mut [u8],
     v: &mut [i32],
     s1: &mut [i32],
     s3: &mut [i32],
     out: &mut [u8],
-) -> More
-    requires { Ready s line.old out.old v.old s1.old s3.old (length chunk.old) }
-    ensures { Ready result.session line.new out.new v.new s1.new s3.new (length chunk.new) }
+) -> bool
+    requires { Ready s.old line.old out.old v.old s1.old s3.old (length chunk.old) }
+    ensures { Ready s.new line.new out.new v.new s1.new s3.new (length chunk.new) }
 {
     let n = read_chunk(rt, input, chunk);
     if n == 0 {
-        return More {
-            session: s,
-            more: false,
-        };
+        return false;
     }
-    s = take_part(s, &chunk[..n], line, v, s1, s3, out);
+    *s = take_part(*s, &chunk[..n], line, v, s1, s3, out);
     write_out(rt, s, out)
+}
+
+// Reads to the end of the input. Nothing says that there is one, so the reads are counted, up to a number that no run reaches.
+fn read_all(
+    rt: &(impl Print + Eprint),
+    input: &mut impl Read,
+    s: &mut Session,
+    chunk: &mut [u8],
+    line: &mut [u8],
+    v: &mut [i32],
+    s1: &mut [i32],
+    s3: &mut [i32],
+    out: &mut [u8],
+)
+    requires { Ready s.old line.old out.old v.old s1.old s3.old (length chunk.old) }
+    ensures { Ready s.new line.new out.new v.new s1.new s3.new (length chunk.new) }
+{
+    for _ in 0..u64::MAX {
+        if !read_some(rt, input, s, chunk, line, v, s1, s3, out) {
+            return;
+        }
+    }
 }
 
 // A last line may lack its line feed.
@@ -213,10 +213,9 @@ fn end_input(
     requires { Ready s line.now out.old v.old s1.old s3.old 1 }
 {
     s = end_line(s, line, v, s1, s3, out);
-    write_out(rt, s, out);
+    write_out(rt, &mut s, out);
 }
 
-// Reads to the end of the input. Nothing says that there is one, so the turns are counted down, from a number that no run uses up.
 pub(super) fn run(
     rt: &(impl Input + Print + Eprint),
     chunk: &mut [u8],
@@ -229,15 +228,7 @@ pub(super) fn run(
     requires { Rooms chunk.old line.old out.old v.old s1.old s3.old }
 {
     let mut input = rt.reader();
-    let mut m = begun();
-    let mut turns = u64::MAX;
-    while turns > 0 {
-        m = read_some(rt, &mut input, m.session, chunk, line, v, s1, s3, out);
-        if m.more {
-            turns -= 1;
-        } else {
-            turns = 0;
-        }
-    }
-    end_input(rt, m.session, line, v, s1, s3, out);
+    let mut s = begun();
+    read_all(rt, &mut input, &mut s, chunk, line, v, s1, s3, out);
+    end_input(rt, s, line, v, s1, s3, out);
 }

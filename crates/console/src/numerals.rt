@@ -2,127 +2,77 @@
 ghost use Rattle.std.specs.Prelude.{◌≡◌, ◌≤◌};
 ghost use Rattle.console.specs.Numbers.{digit_of, digits_of, positive, negative, value_of, pair_of};
 
-use super::texts::begins;
-
-// What a row of digits is worth, up to 2^63.
-#[derive(Clone, Copy)]
-pub enum Worth {
-    Is(u64),
-    Not,
-}
-
-#[derive(Clone, Copy)]
-pub enum Number {
-    Is(i64),
-    Not,
-}
-
-// What a byte is worth as a digit; 16 if it is none.
-pub(super) fn digit(c: u8) -> u64
+// What a byte is worth as a digit.
+#[tactic(auto, unfolding(crate::specs::Numbers::digit_of))]
+pub(super) fn digit(c: u8) -> Option<u64>
     ensures { result ≡ digit_of c }
 {
-    if c < b'0' {
-        return 16;
+    match c {
+        b'0'..=b'9' => Some(u64::from(c - b'0')),
+        b'A'..=b'F' => Some(u64::from(c - b'A') + 10),
+        b'a'..=b'f' => Some(u64::from(c - b'a') + 10),
+        _ => None,
     }
-    if c <= b'9' {
-        return (c - b'0') as u64;
-    }
-    if c < b'A' {
-        return 16;
-    }
-    if c <= b'F' {
-        return (c - b'A') as u64 + 10;
-    }
-    if c < b'a' {
-        return 16;
-    }
-    if c <= b'f' {
-        return (c - b'a') as u64 + 10;
-    }
-    16
 }
 
-// What a text of digits in a base is worth.
-fn digits(text: &[u8], base: u64) -> Worth
+// What a text of digits in a base is worth, up to 2^63.
+fn digits(text: &[u8], base: u64) -> Option<u64>
     requires { (1 ≤ base) × (base ≤ 16) }
     ensures { result ≡ digits_of base text.now }
 {
-    if text.len() == 0 {
-        return Worth::Not;
+    if text.is_empty() {
+        return None;
     }
-    let most = 9223372036854775808 / base;
     let mut worth: u64 = 0;
-    let mut k = 0;
-    while k < text.len() {
-        let d = digit(text[k]);
+    for c in text {
+        let d = digit(*c)?;
         if base <= d {
-            return Worth::Not;
+            return None;
         }
-        if most < worth {
-            return Worth::Not;
-        }
-        worth = worth * base + d;
-        k += 1;
+        worth = worth.checked_mul(base)?.checked_add(d)?;
     }
-    if worth <= 9223372036854775808 {
-        Worth::Is(worth)
-    } else {
-        Worth::Not
-    }
+    (worth <= 1 << 63).then_some(worth)
 }
 
-fn plus(s: Worth) -> Number
-    ensures { result ≡ positive s }
+#[tactic(auto, unfolding(crate::specs::Numbers::positive))]
+fn plus(worth: Option<u64>) -> Option<i64>
+    ensures { result ≡ positive worth }
 {
-    match s {
-        Worth::Is(x) => {
-            if x < 9223372036854775808 {
-                Number::Is(x as i64)
-            } else {
-                Number::Not
-            }
-        }
-        Worth::Not => Number::Not,
-    }
+    let x = worth?;
+    if x < 1 << 63 { Some(x as i64) } else { None }
 }
 
-fn minus(s: Worth) -> Number
-    ensures { result ≡ negative s }
+#[tactic(auto, unfolding(crate::specs::Numbers::negative))]
+fn minus(worth: Option<u64>) -> Option<i64>
+    ensures { result ≡ negative worth }
 {
-    match s {
-        Worth::Is(x) => {
-            if x < 9223372036854775808 {
-                return Number::Is(-(x as i64));
-            }
-            if x == 9223372036854775808 {
-                Number::Is(-9223372036854775808)
-            } else {
-                Number::Not
-            }
-        }
-        Worth::Not => Number::Not,
+    let x = worth?;
+    if x < 1 << 63 {
+        return Some(-(x as i64));
     }
+    (x == 1 << 63).then_some(i64::MIN)
 }
 
 // What a text is worth as a number.
-pub(super) fn value(text: &[u8]) -> Number
+pub(super) fn value(text: &[u8]) -> Option<i64>
     ensures { result ≡ value_of text.now }
 {
-    if begins(text, b"0x") {
-        return plus(digits(&text[2..], 16));
+    if let Some(rest) = text.strip_prefix(b"0x") {
+        return plus(digits(rest, 16));
     }
-    if begins(text, b"-") {
-        return minus(digits(&text[1..], 10));
+    if let Some(rest) = text.strip_prefix(b"-") {
+        return minus(digits(rest, 10));
     }
     plus(digits(text, 10))
 }
 
 // What exactly two hexadecimal digits are worth.
-pub(super) fn pair(text: &[u8]) -> Number
+#[tactic(auto, unfolding(crate::specs::Numbers::pair_of))]
+pub(super) fn pair(text: &[u8]) -> Option<i64>
     ensures { result ≡ pair_of text.now }
 {
     if text.len() == 2 {
         return plus(digits(text, 16));
     }
-    Number::Not
+    None
 }

@@ -1,11 +1,11 @@
 // Texts put behind the answers that are gathered in a buffer; each function gives the number of bytes that are used then.
 ghost use Rattle.std.specs.Prelude.{◌≡◌, ◌++◌, ◌+◌, ◌*◌, ◌≤◌, ◌<◌, length, take};
 ghost use Rattle.decimal.specs.Decimals.{signed_decimal};
-ghost use Rattle.refusal.specs.Words.{words_of};
 ghost use Rattle.console.specs.Answers.{digits_text, card_text, hex_digit, bytes_text};
 
 use serial::Serial;
 
+#[tactic(auto, using(serial::proofs::Places::put_fits, serial::proofs::Places::front_put))]
 pub(super) fn put(out: &mut [u8], used: usize, text: &[u8]) -> usize
     requires { used + length text.now ≤ length out.old }
     ensures { (take result out.new ≡ take used out.old ++ text.now) × (result ≡ used + length text.now) }
@@ -18,22 +18,10 @@ pub(super) fn put_number(out: &mut [u8], used: usize, v: i64) -> usize
     requires { used + 20 ≤ length out.old }
     ensures { (take result out.new ≡ take used out.old ++ signed_decimal v) × (result ≤ used + 20) }
 {
-    let t = decimal::number_text(v);
-    let bytes = t.bytes;
-    let from = t.from;
-    put(out, used, &bytes[from..])
+    put(out, used, decimal::number_text(v).text())
 }
 
-// The words of a refusal's number.
-pub(super) fn put_words(out: &mut [u8], used: usize, number: usize) -> usize
-    requires { used + 40 ≤ length out.old }
-    ensures { (take result out.new ≡ take used out.old ++ words_of number) × (result ≤ used + 40) }
-{
-    let mut words = [0u8; 40];
-    let n = refusal::words(number, &mut words);
-    put(out, used, &words[..n])
-}
-
+#[tactic(auto, unfolding(crate::specs::Answers::digits_text))]
 pub(super) fn put_digits(out: &mut [u8], used: usize, s: Serial) -> usize
     requires { used + 12 ≤ length out.old }
     ensures { (take result out.new ≡ take used out.old ++ digits_text s) × (result ≤ used + 12) }
@@ -47,6 +35,7 @@ pub(super) fn put_digits(out: &mut [u8], used: usize, s: Serial) -> usize
 }
 
 // A card's serial, or `-` where there is no card.
+#[tactic(auto, unfolding(crate::specs::Answers::card_text, serial::specs::Ascii::ascii))]
 pub(super) fn put_card(out: &mut [u8], used: usize, s: Serial) -> usize
     requires { used + 12 ≤ length out.old }
     ensures { (take result out.new ≡ take used out.old ++ card_text s) × (result ≤ used + 12) }
@@ -57,6 +46,7 @@ pub(super) fn put_card(out: &mut [u8], used: usize, s: Serial) -> usize
     put_digits(out, used, s)
 }
 
+#[tactic(auto, unfolding(crate::specs::Answers::hex_digit))]
 fn hex_digit(d: u8) -> u8
     requires { d < 16 }
     ensures { result ≡ hex_digit d }
@@ -65,18 +55,16 @@ fn hex_digit(d: u8) -> u8
 }
 
 // Each byte as a space and two hexadecimal digits.
+#[tactic(auto, using(crate::proofs::AnswerLaws::one_byte))]
 pub(super) fn put_bytes(out: &mut [u8], used: usize, bytes: &[u8]) -> usize
     requires { used + 3 * length bytes.now ≤ length out.old }
     ensures out_after { take result out.new ≡ take used out.old ++ bytes_text bytes.now }
     ensures value { result ≡ used + 3 * length bytes.now }
 {
     let mut at = used;
-    let mut k = 0;
-    while k < bytes.len() {
-        let b = bytes[k];
-        let text = [b' ', hex_digit(b / 16), hex_digit(b % 16)];
+    for b in bytes {
+        let text = [b' ', hex_digit(*b / 16), hex_digit(*b % 16)];
         at = put(out, at, &text);
-        k += 1;
     }
     at
 }

@@ -3,26 +3,16 @@ ghost use Rattle.std.specs.Prelude.{length};
 ghost use Rattle.console.specs.Inside.{Sliced};
 
 use super::items::take_samples;
-use super::texts::begins;
 use super::unread::{Why, slice_stopped};
 
-// How many samples it has, and where the text goes on behind its bar; or why the line is not read.
-#[derive(Clone, Copy)]
-pub enum Slice {
-    Ends(usize, usize),
-    Stops(Why),
-}
-
-// Takes the samples into a lent buffer.
-pub(super) fn take_slice(text: &[u8], into: &mut [i32]) -> Slice
+// Takes the samples into a lent buffer: how many they are, and the text behind its bar; or why the line is not read.
+pub(super) fn take_slice<'a>(text: &'a [u8], into: &mut [i32]) -> Result<(usize, &'a [u8]), Why>
     ensures { Sliced result (length into.old) text.now into.new }
 {
     let n = take_samples(text, into);
-    let at = n.taken;
-    let count = n.count;
-    let behind = &text[at..];
-    if begins(behind, b" |") {
-        return Slice::Ends(count, at + 2);
+    let behind = &text[n.taken..];
+    match behind.strip_prefix(b" |") {
+        Some(rest) => Ok((n.count, rest)),
+        None => Err(slice_stopped(into.len(), n.count, behind)),
     }
-    Slice::Stops(slice_stopped(into.len(), count, behind))
 }

@@ -1,25 +1,9 @@
 // Words, and the items of a line, which one space parts.
 ghost use Rattle.std.specs.Prelude.{◌≡◌, length};
-ghost use Rattle.console.specs.Texts.{begins_with, length_to, without_return};
-
-// Whether a text begins with a word.
-pub(super) fn begins(text: &[u8], word: &[u8]) -> bool
-    ensures { result ≡ begins_with word.now text.now }
-{
-    let mut k = 0;
-    while k < word.len() {
-        if text.len() <= k {
-            return false;
-        }
-        if text[k] != word[k] {
-            return false;
-        }
-        k += 1;
-    }
-    true
-}
+ghost use Rattle.console.specs.Texts.{length_to, without_return};
 
 // How long a line is without the carriage return that may stand before its end.
+#[tactic(auto, unfolding(crate::specs::Texts::without_return))]
 pub(super) fn line_length(line: &[u8]) -> usize
     ensures { result ≡ length (without_return line.now) }
 {
@@ -34,12 +18,5 @@ pub(super) fn line_length(line: &[u8]) -> usize
 pub(super) fn length_to(stop: u8, text: &[u8]) -> usize
     ensures { result ≡ length_to stop text.now }
 {
-    let mut k = 0;
-    while k < text.len() {
-        if text[k] == stop {
-            return k;
-        }
-        k += 1;
-    }
-    k
+    text.iter().position(|c| *c == stop).unwrap_or(text.len())
 }

@@ -1,6 +1,7 @@
 // Why a line is not read.
-ghost use Rattle.std.specs.Prelude.{◌≡◌, drop};
-ghost use Rattle.console.specs.Unread.{not_a, stopped_before, slice_stopped, packet_stopped};
+ghost use Rattle.std.specs.Prelude.{◌≡◌, ◌≤◌, length, drop};
+ghost use Rattle.serial.specs.Ascii.{ascii};
+ghost use Rattle.console.specs.Unread.{why_words, not_a, stopped_before, slice_stopped, packet_stopped};
 ghost use Rattle.console.specs.Words.{items_of};
 
 use super::words::{Kind, Word, arity, kind_at};
@@ -22,6 +23,29 @@ pub enum Why {
     TooManyBytes,
 }
 
+impl Why {
+    #[tactic(auto, unfolding(crate::specs::Unread::why_words, serial::specs::Ascii::ascii))]
+    pub(super) fn words(self) -> &'static [u8]
+        ensures { (result.now ≡ ascii (why_words self)) × (length result.now ≤ 48) }
+    {
+        match self {
+            Why::TooLong => b"longer than 131,071 bytes",
+            Why::NoStep => b"no such step",
+            Why::Missing => b"an item missing",
+            Why::NotNumber => b"not a 64-bit number",
+            Why::NotField => b"neither a 64-bit number nor a field's name",
+            Why::NotRegister => b"neither a 64-bit number nor a register's name",
+            Why::More => b"more items than the step has",
+            Why::NoBar => b"fewer than two bars",
+            Why::TooMany => b"more than 8,192 samples in a slice",
+            Why::NotSample => b"not a 32-bit number",
+            Why::NotRoom => b"not a number from 0 to 255",
+            Why::NotByte => b"not two hexadecimal digits",
+            Why::TooManyBytes => b"more than 4,096 bytes",
+        }
+    }
+}
+
 // An item that is not what must stand there.
 fn not_a(k: Kind) -> Why
     ensures { result ≡ not_a k }
@@ -38,6 +62,7 @@ fn not_a(k: Kind) -> Why
 }
 
 // Behind `count` items of a step the line has `behind`: it ends too early or has something else.
+#[tactic(auto, unfolding(crate::specs::Unread::stopped_before))]
 pub(super) fn stopped(w: Word, count: usize, behind: &[u8]) -> Why
     ensures { result ≡ stopped_before (drop count (items_of w)) behind.now }
 {
@@ -51,6 +76,7 @@ pub(super) fn stopped(w: Word, count: usize, behind: &[u8]) -> Why
 }
 
 // Behind `count` samples of a slice, which has room for so many, the line has neither a sample nor what ends the slice.
+#[tactic(auto, unfolding(crate::specs::Unread::slice_stopped))]
 pub(super) fn slice_stopped(room: usize, count: usize, behind: &[u8]) -> Why
     ensures { result ≡ slice_stopped room count behind.now }
 {

@@ -1,7 +1,8 @@
 // The word that a line begins with, and the items that its step has.
-ghost use Rattle.std.specs.Prelude.{◌≡◌, ◌≤◌, ◌<◌, length, drop, get_or};
+ghost use Rattle.std.specs.Prelude.{◌≡◌, ◌≤◌, ◌<◌, length, get_or};
 ghost use Rattle.console.specs.declared.words.Kind.TheVariants as «kind»;
-ghost use Rattle.console.specs.Words.{words, first_of, word_of, most, items_of, enough};
+ghost use Rattle.console.specs.Words.{word_of, most, items_of, enough};
+ghost use Rattle.console.specs.Inside.{word_in};
 
 use serial::same_text;
 
@@ -34,59 +35,42 @@ pub enum Kind {
     Byte,
 }
 
+const WORDS: [(&[u8], Word); 12] = [
+    (b"start", Word::Start),
+    (b"open", Word::Open),
+    (b"write", Word::Write),
+    (b"commit", Word::Commit),
+    (b"drop", Word::Drop),
+    (b"hold", Word::Hold),
+    (b"read", Word::Read),
+    (b"poll", Word::Poll),
+    (b"block", Word::Block),
+    (b"reset", Word::Reset),
+    (b"cards", Word::Cards),
+    (b"help", Word::Help),
+];
+
+// The word of the first entry whose letters an item is.
+fn word_in(table: &[(&[u8], Word)], item: &[u8]) -> Word
+    ensures { result ≡ word_in table.now item.now }
+{
+    match table.iter().find(|e| same_text(e.0, item)) {
+        Some(entry) => entry.1,
+        None => Word::Other,
+    }
+}
+
 pub(super) fn first_word(item: &[u8]) -> Word
     ensures { result ≡ word_of item.now }
 {
-    if same_text(b"start", item) {
-        return Word::Start;
-    }
-    if same_text(b"open", item) {
-        return Word::Open;
-    }
-    if same_text(b"write", item) {
-        return Word::Write;
-    }
-    if same_text(b"commit", item) {
-        return Word::Commit;
-    }
-    if same_text(b"drop", item) {
-        return Word::Drop;
-    }
-    if same_text(b"hold", item) {
-        return Word::Hold;
-    }
-    if same_text(b"read", item) {
-        return Word::Read;
-    }
-    if same_text(b"poll", item) {
-        return Word::Poll;
-    }
-    later_word(item)
-}
-
-// One of the words that are listed behind it.
-fn later_word(item: &[u8]) -> Word
-    ensures { result ≡ first_of (drop 8 words) item.now }
-{
-    if same_text(b"block", item) {
-        return Word::Block;
-    }
-    if same_text(b"reset", item) {
-        return Word::Reset;
-    }
-    if same_text(b"cards", item) {
-        return Word::Cards;
-    }
-    if same_text(b"help", item) {
-        return Word::Help;
-    }
-    Word::Other
+    word_in(&WORDS, item)
 }
 
 // The most items that a step has.
 pub(super) const MOST: usize = 13;
 
 // How many items follow it, but for the text of an open, the bytes of a poll and the samples of a block.
+#[tactic(auto, unfolding(crate::specs::Words::items_of))]
 pub(super) fn arity(w: Word) -> usize
     ensures { (result ≡ length (items_of w)) × (result ≤ most) }
 {
@@ -99,8 +83,8 @@ pub(super) fn arity(w: Word) -> usize
         Word::Hold => 1,
         Word::Read => 2,
         Word::Poll => 1,
-        Word::Block => 0,
         Word::Reset => 1,
+        Word::Block => 0,
         Word::Cards => 0,
         Word::Help => 0,
         Word::Other => 0,
@@ -115,6 +99,7 @@ pub(super) fn are_enough(w: Word, count: usize) -> bool
 }
 
 // What must stand as its kth item.
+#[tactic(auto, unfolding(crate::specs::Words::items_of))]
 pub(super) fn kind_at(w: Word, k: usize) -> Kind
     requires { k < length (items_of w) }
     ensures { result ≡ get_or (items_of w) k «kind».Number }

@@ -3,7 +3,7 @@ use Rattle.std.specs.Prelude.{ℕ, List, [], ◌∷◌, ◌++◌, ℤ, pos, take
 use Rattle.decimal.specs.Decimals.{signed_decimal}
 use Rattle.serial.specs.Ascii.{ascii}
 use Rattle.refusal.specs.Words.{words_of}
-use Rattle.counter.specs.declared.lines.Line.{Line}
+use Rattle.counter.specs.declared.line.Line.{Line}
 
 -- what stands in a line so far
 unfoldable pub shown : Line → List ℕ

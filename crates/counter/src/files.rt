@@ -8,10 +8,7 @@ use std::{fs, io};
 
 // A path as text, which is how std takes it: one that is no UTF-8 is refused as a name.
 fn path_text(path: &[u8]) -> io::Result<&str> {
-    match str::from_utf8(path) {
-        Ok(text) => Ok(text),
-        Err(_) => Err(io::Error::from(io::ErrorKind::InvalidFilename)),
-    }
+    str::from_utf8(path).map_err(|_| io::Error::from(io::ErrorKind::InvalidFilename))
 }
 
 // Makes a file and opens it for writing, only where there is none of this name yet.
@@ -30,15 +27,15 @@ pub(super) fn remove(rt: &impl Files, path: &[u8]) -> io::Result<()> {
     fs::remove_file(rt, path_text(path)?)
 }
 
-// The name of the second file: that of the book and .new. 0 where it would be too long for a name.
-pub(super) fn beside(path: &[u8], name: &mut [u8; 4096]) -> usize {
+// The name of the second file, that of the book and .new, put in a buffer; empty where it would be too long for a name.
+pub(super) fn beside<'a>(path: &[u8], name: &'a mut [u8; 4096]) -> &'a [u8] {
     let n = path.len();
     if 4000 < n {
-        return 0;
+        return &[];
     }
     serial::put_at(name, 0, path);
     serial::put_at(name, n, b".new");
-    n + 4
+    &name[..n + 4]
 }
 
 // Reads until the buffer is full, the input ends or a read fails: how many bytes it put at the front.
@@ -76,16 +73,4 @@ pub(super) fn read_book(rt: &impl Files, path: &[u8], bytes: &mut [u8; 65536]) -
 pub(super) fn keep(file: &mut (impl Write + OpenFile), bytes: &[u8]) -> io::Result<()> {
     file.write_all(bytes)?;
     file.sync_all()
-}
-
-pub(super) fn keep_first(
-    file: &mut (impl Write + OpenFile),
-    bytes: [u8; 65536],
-    n: u64,
-) -> io::Result<()> {
-    if n <= 65536 {
-        let end = n as usize;
-        return keep(file, &bytes[0..end]);
-    }
-    Err(io::Error::from(io::ErrorKind::InvalidInput))
 }

@@ -2,6 +2,8 @@
 ghost use Rattle.std.specs.Prelude.{◌≡◌};
 ghost use Rattle.listing.specs.Lines.{listing};
 
+use refusal::Refusal;
+
 // Writes the listing of a book. Whoever calls it has to show that the text is that listing, whole.
 fn print(rt: &(impl Print + Eprint), book: &[u8], text: &[u8])
     requires { text.now ≡ listing book.now }
@@ -20,6 +22,6 @@ pub(crate) fn print_book(rt: &(impl Print + Eprint), book: &[u8]) {
     if book::is_book(book) {
         print_listing(rt, book);
     } else {
-        crate::refuse(rt, -2);
+        crate::refuse(rt, Refusal::Malformed);
     }
 }

@@ -5,25 +5,46 @@
 #![tactic(auto)]
 
 mod files;
+mod line;
 mod lines;
 mod list;
 mod orders;
 
-ghost use Rattle.std.specs.Prelude.{◌≤◌, length};
+ghost use Rattle.std.specs.Prelude.{◌≤◌, length, IfErr};
 
-use files::{beside, create, keep, keep_first, read_book, remove, rename};
-use lines::Line;
+use card::Card;
+use files::{beside, create, keep, read_book, remove, rename};
+use line::Line;
 use orders::Order;
+use refusal::Refusal;
 use std::env::FillError;
 use std::io;
 use std::rt::{Env, Files};
-use typed::Value;
 
-// The eight values of a new card, or which of them, from 1, is no whole number.
+// What is changed in a book: a card with these values is added, or a serial withdrawn.
 #[derive(Clone, Copy)]
-struct Fields {
-    unread: usize,
-    fields: [i64; 8],
+enum Change {
+    Add([i64; 8]),
+    Withdraw,
+}
+
+// Why a change is not made: it is refused, or the system does not do it.
+#[derive(Drop)]
+enum Failure {
+    Refused(Refusal),
+    NotDone(io::Error),
+}
+
+impl From<Refusal> for Failure {
+    fn from(refusal: Refusal) -> Failure {
+        Failure::Refused(refusal)
+    }
+}
+
+impl From<io::Error> for Failure {
+    fn from(error: io::Error) -> Failure {
+        Failure::NotDone(error)
+    }
 }
 
 fn say(rt: &(impl Print + Eprint), text: &[u8]) {
@@ -32,15 +53,8 @@ fn say(rt: &(impl Print + Eprint), text: &[u8]) {
     }
 }
 
-fn print_bytes(rt: &(impl Print + Eprint), bytes: [u8; 96], n: usize) {
-    if n <= 96 {
-        say(rt, &bytes[0..n]);
-    }
-}
-
 fn print(rt: &(impl Print + Eprint), line: Line) {
-    let bytes = line.bytes;
-    print_bytes(rt, bytes, line.len);
+    say(rt, line.text());
 }
 
 // What the system refused, by its own words on standard error.
@@ -62,21 +76,15 @@ fn usage(rt: &(impl Print + Eprint)) {
     );
 }
 
-fn refuse(rt: &(impl Print + Eprint), answer: i64) {
-    let n = number::size(answer);
-    if n <= 21 {
-        print(rt, lines::refused_line(n as u8));
-    }
+fn refuse(rt: &(impl Print + Eprint), refusal: Refusal) {
+    print(rt, lines::refused_line(refusal));
 }
 
-// An argument, put at the front of a buffer: how many bytes it has. A missing one counts as empty, and so does one that is longer than
-// the buffer.
-fn argument(rt: &impl Env, k: usize, buffer: &mut [u8]) -> usize
-    ensures { result ≤ length buffer.new }
-{
+// An argument, put in a buffer. A missing one counts as empty, and so does one that is longer than the buffer.
+fn argument<'a>(rt: &impl Env, k: usize, buffer: &'a mut [u8]) -> &'a [u8] {
     match rt.arg(k, buffer) {
-        Ok(n) => n,
-        Err(_) => 0,
+        Ok(n) => &buffer[..n],
+        Err(_) => &[],
     }
 }
 
@@ -92,150 +100,106 @@ fn argument_count(rt: &impl Env) -> usize {
 }
 
 // A word longer than the buffer counts as empty: it is no number, and no label either.
-fn value_at(rt: &impl Env, k: usize) -> Value {
+fn value_at(rt: &impl Env, k: usize) -> Option<i64> {
     let mut buffer = [0u8; 4096];
-    let n = argument(rt, k, &mut buffer);
-    typed::value_of(&buffer[..n])
+    typed::value_of(argument(rt, k, &mut buffer))
 }
 
-fn read_values(rt: &impl Env) -> Fields {
-    let mut fields = [0i64; 8];
-    for k in 0..8usize {
-        let v = value_at(rt, 4 + k);
-        if v.whole {
-            let x = v.value;
-            fields[k] = x;
-        } else {
-            return Fields {
-                unread: k + 1,
-                fields,
-            };
-        }
+// The eight values of a new card, or which of them, from 1, is no whole number.
+fn read_values(rt: &impl Env) -> Result<[i64; 8], usize>
+    ensures { IfErr result (λ k. k ≤ 8) }
+{
+    let mut values = [0i64; 8];
+    for k in 0..8 {
+        values[k] = value_at(rt, 4 + k).ok_or(k + 1)?;
     }
-    Fields { unread: 0, fields }
+    Ok(values)
 }
 
-fn print_field(rt: &(impl Print + Eprint), name: &[u8], value: i64)
+fn print_field(rt: &(impl Print + Eprint), name: &[u8], value: i32)
     requires { length name.now ≤ 20 }
 {
-    print(rt, lines::number_line(name, value));
+    print(rt, lines::number_line(name, i64::from(value)));
 }
 
-fn print_card(rt: &(impl Print + Eprint), card: &[u8], label: &[u8]) {
-    let mut f = [0i64; 8];
-    stock::read::stock_fields(card, &mut f);
+fn print_card(rt: &(impl Print + Eprint), card: Card, label: &[u8]) {
     if label.len() <= 12 {
         print(rt, lines::text_line(b"SERIAL", label));
     }
-    print_field(rt, b"VOFFS", f[0]);
-    print_field(rt, b"IOFFS", f[1]);
-    print_field(rt, b"VGAIN", f[2]);
-    print_field(rt, b"IGAIN", f[3]);
-    print_field(rt, b"PHASE", f[4]);
-    print_field(rt, b"IRMSOFFS", f[5]);
-    print_field(rt, b"SQUELCH", f[6]);
-    print_field(rt, b"POFFS", f[7]);
+    let [voffs, ioffs, vgain, igain, phase, irmsoffs, squelch, poffs] = card.fields;
+    print_field(rt, b"VOFFS", voffs);
+    print_field(rt, b"IOFFS", ioffs);
+    print_field(rt, b"VGAIN", vgain);
+    print_field(rt, b"IGAIN", igain);
+    print_field(rt, b"PHASE", phase);
+    print_field(rt, b"IRMSOFFS", irmsoffs);
+    print_field(rt, b"SQUELCH", squelch);
+    print_field(rt, b"POFFS", poffs);
 }
 
 fn find(rt: &(impl Env + Print + Eprint), book: &[u8]) {
     let mut buffer = [0u8; 4096];
-    let n = argument(rt, 3, &mut buffer);
-    let place = stock::stock_lookup(book, &buffer[..n]);
-    if place < 0 {
-        refuse(rt, place);
-        return;
+    let label = argument(rt, 3, &mut buffer);
+    match lookup::lookup(book, label) {
+        Ok(_) => print_card(rt, Card::of(lookup::card_of(book, label)), label),
+        Err(refusal) => refuse(rt, refusal),
     }
-    print_card(rt, lookup::card_of(book, &buffer[..n]), &buffer[..n]);
 }
 
 fn check(rt: &(impl Print + Eprint), book: &[u8]) {
-    let answer = stock::read::stock_check(book);
-    if answer < 0 {
-        refuse(rt, answer);
-        return;
+    if book::is_book(book) {
+        say(rt, b"WELL FORMED\n");
+    } else {
+        refuse(rt, Refusal::Malformed);
     }
-    say(rt, b"WELL FORMED\n");
 }
 
-// The orders that only read the book.
-fn look(rt: &(impl Env + Files + Print + Eprint), order: Order, path: &[u8]) {
+// An order that only reads the book.
+fn look<F: Fn(&[u8])>(rt: &(impl Files + Print + Eprint), path: &[u8], show: F)
+    requires { F.IsAlwaysCallable show }
+{
     let mut bytes = [0u8; 65536];
-    let n = match read_book(rt, path, &mut bytes) {
-        Ok(n) => n,
-        Err(error) => {
-            not_done(rt, path, error);
-            return;
-        }
-    };
-    match order {
-        Order::Find => find(rt, &bytes[..n]),
-        Order::List => list::print_book(rt, &bytes[..n]),
-        _ => check(rt, &bytes[..n]),
+    match read_book(rt, path, &mut bytes) {
+        Ok(n) => show(&bytes[..n]),
+        Err(error) => not_done(rt, path, error),
     }
 }
 
-// Adds or withdraws in a buffer of which the book takes n bytes: the new length, or the refusal.
-fn change(rt: &impl Env, order: Order, buffer: &mut [u8; 65536], n: usize, f: [i64; 8]) -> i64 {
+// Makes a change in a buffer of which the book takes so many bytes: the new length, or the refusal.
+fn make_change(
+    rt: &impl Env,
+    order: Change,
+    buffer: &mut [u8; 65536],
+    used: usize,
+) -> Result<usize, Refusal> {
     let mut word = [0u8; 4096];
-    let m = argument(rt, 3, &mut word);
+    let label = argument(rt, 3, &mut word);
     match order {
-        Order::Add => {
-            stock::stock_add(
-                buffer,
-                n,
-                &word[..m],
-                f[0],
-                f[1],
-                f[2],
-                f[3],
-                f[4],
-                f[5],
-                f[6],
-                f[7],
-            )
-        }
-        _ => stock::stock_withdraw(buffer, n, &word[..m]),
+        Change::Add(values) => change::add(buffer, used, label, values),
+        Change::Withdraw => change::withdraw(buffer, used, label),
     }
 }
 
-// Reads the book, changes it and writes the new one to the second file: whether that is whole.
-fn write_changed<R: Env + Files + Print + Eprint>(
+// Reads the book, changes it and writes the new one to the second file.
+fn write_changed<R: Env + Files>(
     rt: &R,
-    order: Order,
+    order: Change,
     path: &[u8],
-    f: [i64; 8],
     second: &mut R::File,
-) -> bool {
+) -> Result<(), Failure> {
     let mut bytes = [0u8; 65536];
-    let n = match read_book(rt, path, &mut bytes) {
-        Ok(n) => n,
-        Err(error) => {
-            not_done(rt, path, error);
-            return false;
-        }
-    };
-    let answer = change(rt, order, &mut bytes, n, f);
-    if answer < 0 {
-        refuse(rt, answer);
-        return false;
-    }
-    match keep_first(second, bytes, number::size(answer)) {
-        Ok(()) => true,
-        Err(error) => {
-            not_done(rt, path, error);
-            false
-        }
+    let n = read_book(rt, path, &mut bytes)?;
+    let length = make_change(rt, order, &mut bytes, n)?;
+    match bytes.get(..length) {
+        Some(book) => Ok(keep(second, book)?),
+        None => Err(Failure::NotDone(io::Error::from(io::ErrorKind::InvalidInput))),
     }
 }
 
-// Changes the book by way of a second file of this name.
-fn alter_by(
-    rt: &(impl Env + Files + Print + Eprint),
-    order: Order,
-    path: &[u8],
-    f: [i64; 8],
-    name: &[u8],
-) {
+// Changes the book by way of a second file.
+fn alter(rt: &(impl Env + Files + Print + Eprint), order: Change, path: &[u8]) {
+    let mut buffer = [0u8; 4096];
+    let name = beside(path, &mut buffer);
     let mut second = match create(rt, name) {
         Ok(file) => file,
         Err(error) => {
@@ -243,51 +207,27 @@ fn alter_by(
             return;
         }
     };
-    let whole = write_changed(rt, order, path, f, &mut second);
+    let written = write_changed(rt, order, path, &mut second);
     drop(second);
-    if whole {
-        match rename(rt, name, path) {
+    match written {
+        Ok(()) => match rename(rt, name, path) {
             Ok(()) => {
                 say(rt, b"DONE\n");
                 return;
             }
             Err(error) => not_done(rt, path, error),
-        }
+        },
+        Err(Failure::Refused(refusal)) => refuse(rt, refusal),
+        Err(Failure::NotDone(error)) => not_done(rt, path, error),
     }
     let _ = remove(rt, name);
 }
 
-fn alter_from(
-    rt: &(impl Env + Files + Print + Eprint),
-    order: Order,
-    path: &[u8],
-    f: [i64; 8],
-    name: [u8; 4096],
-    m: usize,
-) {
-    if m <= 4096 {
-        alter_by(rt, order, path, f, &name[0..m]);
-    }
-}
-
-// The orders that change the book.
-fn alter(rt: &(impl Env + Files + Print + Eprint), order: Order, path: &[u8], f: [i64; 8]) {
-    let mut name = [0u8; 4096];
-    let m = beside(path, &mut name);
-    alter_from(rt, order, path, f, name, m);
-}
-
 fn add(rt: &(impl Env + Files + Print + Eprint), path: &[u8]) {
-    let v = read_values(rt);
-    let k = v.unread;
-    if 0 < k {
-        if k <= 8 {
-            print(rt, lines::number_line(b"UNREAD: VALUE", k as i64));
-        }
-        return;
+    match read_values(rt) {
+        Ok(values) => alter(rt, Change::Add(values), path),
+        Err(k) => print(rt, lines::number_line(b"UNREAD: VALUE", k as i64)),
     }
-    let fields = v.fields;
-    alter(rt, Order::Add, path, fields);
 }
 
 // An empty book, where there is no file of this name yet.
@@ -310,17 +250,16 @@ fn make(rt: &(impl Files + Print + Eprint), path: &[u8]) {
 
 fn main(rt: HostRuntime) {
     let mut path = [0u8; 4096];
-    let n = argument(&rt, 1, &mut path);
+    let path = argument(&rt, 1, &mut path);
     let mut word = [0u8; 4096];
-    let m = argument(&rt, 2, &mut word);
-    let order = orders::order_of(&word[..m], argument_count(&rt));
-    match order {
-        Order::Find => look(&rt, Order::Find, &path[..n]),
-        Order::List => look(&rt, Order::List, &path[..n]),
-        Order::Check => look(&rt, Order::Check, &path[..n]),
-        Order::Add => add(&rt, &path[..n]),
-        Order::Withdraw => alter(&rt, Order::Withdraw, &path[..n], [0i64; 8]),
-        Order::New => make(&rt, &path[..n]),
+    let word = argument(&rt, 2, &mut word);
+    match orders::order_of(word, argument_count(&rt)) {
+        Order::Find => look(&rt, path, |book| find(&rt, book)),
+        Order::List => look(&rt, path, |book| list::print_book(&rt, book)),
+        Order::Check => look(&rt, path, |book| check(&rt, book)),
+        Order::Add => add(&rt, path),
+        Order::Withdraw => alter(&rt, Change::Withdraw, path),
+        Order::New => make(&rt, path),
         Order::Unread => usage(&rt),
     }
 }

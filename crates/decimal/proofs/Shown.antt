@@ -26,3 +26,10 @@ shown {v} h =
     let n = 20 - length (signed_decimal v) in
     rw (drop_at (replicate n 0) (signed_decimal v) n (length-replicate n 0))
     (take_all (20 - n) (signed_decimal v) (omega (arith, at_most_twenty h)))
+
+-- the same of `Text::text`: what it lends of a number's text is the number in decimal
+pub text_is : {v : ℤ} → SFits w64 v → drop (number_text v).from (number_text v).bytes ≡ signed_decimal v
+unfolding number_text at_end
+text_is {v} h =
+    let n = 20 - length (signed_decimal v) in
+    drop_at (replicate n 0) (signed_decimal v) n (length-replicate n 0)

@@ -1,14 +1,25 @@
 // A whole number as decimal text.
 #![tactic(auto)]
 
-ghost use Rattle.std.specs.Prelude.{◌≡◌, ◌<◌};
+ghost use Rattle.std.specs.Prelude.{◌≡◌, ◌<◌, ◌+◌, min, drop};
 ghost use Rattle.decimal.specs.Decimals.{decimal, at_end, number_text};
 
 // A text at the end of twenty bytes, from a place on; before it are zero bytes.
-#[derive(Clone, Copy)]
+#[derive(Clone, Copy, Debug, PartialEq, Eq)]
 pub struct Text {
     pub bytes: [u8; 20],
     pub from: usize,
+}
+
+impl Text {
+    // The text alone; none where the place is past the end.
+    pub fn text(&self) -> &[u8]
+        ensures value { result.now ≡ drop self.now.from self.now.bytes }
+        ensures place { (result.ref_ptr.0 ≡ self.entry.ref_ptr.0)
+            × (result.ref_ptr.1 ≡ self.entry.ref_ptr.1 + min self.now.from 20) }
+    {
+        &self.bytes[self.from.min(20)..]
+    }
 }
 
 // The digits of a number that has at most nineteen, written from the last to the first.
@@ -26,10 +37,7 @@ fn digits_of(n: u64) -> Text
     }
     i -= 1;
     bytes[i] = (48 + rest % 10) as u8;
-    Text {
-        bytes: bytes,
-        from: i,
-    }
+    Text { bytes, from: i }
 }
 
 // The number in decimal, with a minus sign before one below 0.

@@ -63,9 +63,9 @@ opened : (g : Tags) (t : Tagged core) → Open (some (interval_from (snoc g t)))
 opened [] t = (t, [], refl, refl)
 opened (u ∷ us) t = (u, snoc us t, refl, refl)
 
-long_as : (g : Tags) (t : Tagged core) → length (interval_from (snoc g t)).samples ≡ length (snoc g t)
-long_as [] t = refl
-long_as (u ∷ us) t = ap suc (length-map (snoc us t) (λ (t : Tagged core). t.1))
+from_long : (ts : Tags) → length (interval_from ts).samples ≡ length ts
+from_long [] = refl
+from_long (t ∷ ts) = ap suc (length-map ts (λ (t : Tagged core). t.1))
 
 module _ (n : ℕ) where
   abbrev Groups : Tags → Type 0
@@ -87,7 +87,7 @@ module _ (n : ℕ) where
           r.1 ++ intervals core ts r.0
 
       full_is : eqb (length i.samples) (gathered core i w).settings.n ≡ eqb (length (snoc g t)) n
-      full_is = ap₂ eqb (long_as g t) (gathered_n i w ∙ e)
+      full_is = ap₂ eqb (from_long (snoc g t)) (gathered_n i w ∙ e)
 
       left_n : (closed_with core i w).0.settings.n ≡ n
       left_n = closed_n i.card (gathered core i w) ∙ gathered_n i w ∙ e
@@ -139,10 +139,6 @@ pub cut_is : (n : ℕ) → 1 ≤ n → (ts : Tags) (w : Work) → w.settings.n �
 cut_is n h ts w e = groups n ts none [] w e refl ∙ ap (map interval_from) (grouped_is n h ts [] h)
 
 -- ---- each has n samples
-from_long : (ts : Tags) → length (interval_from ts).samples ≡ length ts
-from_long [] = refl
-from_long (t ∷ ts) = ap suc (length-map ts (λ (t : Tagged core). t.1))
-
 each_by : (n k : ℕ) (ts : Tags) → k * n ≤ length ts → EachHas n (map interval_from (pieces n k ts))
 each_by n zero ts l = tt
 each_by n (suc k) ts l =

@@ -18,7 +18,7 @@ use Rattle.address.specs.Slots.{slot_ok, every_slot}
 use Rattle.tracking.specs.Tracking.{tracked, further, lowest, highest, followed}
 use Rattle.interval.specs.Close.{source_after, seven_of, registers_after, number_after, closed_of}
 use Rattle.alarm.specs.Masks.{only_alarms, named_by}
-use Rattle.alarm.specs.Alarms.{next_place, slid_sum, sags, surges, shown, alarms_after, watched, seen_with, cleared_of, clearing, reset_of as watchReset}
+use Rattle.alarm.specs.Alarms.{next_place, slid_sum, sags, surges, shown, alarms_after, watched, seen_with, cleared_of, clearing}
 use Rattle.alarm.specs.Starting.{numbers_ok as levelsOk, asked_ok, limits_of}
 use Rattle.halfcycle.specs.Passing.{squares, watch_sound}
 use Rattle.meter.specs.Core.{samples_of, last_of, closed_work, reset_watch}
@@ -31,7 +31,7 @@ use Rattle.aberzhan.specs.Module.{port_at, fresh_module, settings_ok, start_of, 
 use Rattle.demands.specs.Day.{DayIsSo}
 
 pub day_is_so : DayIsSo
-unfolding start_of settings_ok asked_ok levelsOk only_alarms named_by limits_of numbers_ok every_slot slot_ok place_of position trackable fresh_of fresh_module port_at opening writing is_serial digits_ok every serial_of padded empty_card with_field is_field field_in_range fits_field lows highs finished all_written card_on discarded copied copy_of look register_of byte_of words untracked slot_off shown_of registers samples_of every24 in24 samples_in added summed joined counted previous voltage phased input voltage_clipped input_clipped source_current multiplier multipliers_in multipliers_of weighed uses_both blended scaled corrected was_clipped mixed outside24 clipped held_within floor_div closed_work last_of closed_of number_after registers_after vrms_of rms root_of root_by source_after figures_of six current_root is_squelched irms_of below_squelch watt_of ipeak_of active_of toward_zero with_sign lessened apparent_of factor_of crest_of plus_after minus_after joined_by advanced seven_of followed tracked further lowest highest emptied open_of write_of commit_of drop_of hold_of read_of block_of reset_of watchReset reset_watch clearing cleared_of meterBlock volts_of block_done wait_of next_card sound_of watch_sound squares seen_with watched slid_sum next_place alarms_after shown sags surges same_length flow_within clips_within of_at_most phase_in_range config_ok
+unfolding start_of settings_ok asked_ok levelsOk only_alarms named_by limits_of numbers_ok every_slot slot_ok place_of position trackable fresh_of fresh_module port_at opening writing is_serial digits_ok every serial_of padded empty_card with_field is_field field_in_range fits_field lows highs finished all_written card_on discarded copied copy_of look register_of byte_of words untracked slot_off shown_of registers samples_of every24 in24 samples_in added summed joined counted previous voltage phased input voltage_clipped input_clipped source_current multiplier multipliers_in multipliers_of weighed uses_both blended scaled corrected was_clipped mixed outside24 clipped held_within floor_div closed_work last_of closed_of number_after registers_after vrms_of rms root_of root_by source_after figures_of six current_root is_squelched irms_of below_squelch watt_of ipeak_of active_of toward_zero with_sign lessened apparent_of factor_of crest_of plus_after minus_after joined_by advanced seven_of followed tracked further lowest highest emptied open_of write_of commit_of drop_of hold_of read_of block_of reset_of reset_watch clearing cleared_of meterBlock volts_of block_done wait_of next_card sound_of watch_sound squares seen_with watched slid_sum next_place alarms_after shown sags surges same_length flow_within clips_within of_at_most phase_in_range config_ok
 day_is_so = record {
   configurations = refl;
   shortens = refl;

@@ -5,14 +5,13 @@ use mathlib.Core.Bool.{Bool, true, false, cond, ◌||◌}
 use mathlib.Core.List.{List}
 use mathlib.Core.Option.{none}
 use lib.IntN.{ℤ}
-use Rattle.steps.specs.Answers.{accepted}
+use Rattle.steps.specs.Answers.{refused, accepted}
 use Rattle.steps.specs.Port.{Port, port0, port1, on}
 use Rattle.steps.specs.Module.{State, fresh}
 use Rattle.steps.specs.Run.{run}
 use Rattle.steps.specs.Gauge.{newly}
 use Rattle.steps.specs.OneCard.{Interval, tagged, intervals, outset, closed_all}
 use Rattle.steps.specs.Calls.{Reply, refuses, done}
-use Rattle.steps.specs.declared.Answer.TheVariants.{Done, Refused}
 use Rattle.steps.proofs.Sound.{SoundState, always_sound}
 use Rattle.steps.proofs.Calls.{calls_demand3}
 use Rattle.steps.proofs.Promise.{promise}
@@ -28,10 +27,9 @@ use Rattle.meter.specs.Starting.{no_card, fresh_work, fresh_of}
 use Rattle.meter.proofs.Sound.{sound_yes}
 use Rattle.meter.proofs.Starts.{fresh_sound}
 use Rattle.aberzhan.specs.declared.Module.{Module}
-use Rattle.aberzhan.specs.declared.Stepped.{Stepped}
 use Rattle.calls.specs.Ports.{ports, aberzhan}
-use Rattle.aberzhan.specs.Module.{watch_of, fresh_module}
-use Rattle.calls.specs.Calls.{state_of, module_of, call_block, reply_of}
+use Rattle.aberzhan.specs.Module.{Outcome, watch_of, fresh_module}
+use Rattle.calls.specs.Calls.{state_of, module_of, call_block, step_reply}
 use Rattle.calls.proofs.Soundness.{SoundModule, sounds, shut_phased, from_start}
 use Rattle.calls.proofs.Contracts.{Allows, methods, start_is, allowed_is}
 use Rattle.calls.proofs.Agreement.{does, eighteen}
@@ -46,7 +44,7 @@ OfFresh P =
 
 pub of_start : (P : Module → Type 0) → OfFresh P → (p : Program) → P (first p)
 of_start P f p =
-    subst (λ (r : Stepped). P r.after) (sym (start_is p.n p.b p.track p.asked p.config p.started p.start_allowed))
+    subst (λ (r : Outcome (Unit {0})). P r.after) (sym (start_is p.n p.b p.track p.asked p.config p.started p.start_allowed))
     (from_start P f p.n p.b p.track p.asked p.config)
 
 -- the state of a fresh module with this work and this watch
@@ -79,7 +77,7 @@ end_sound p e =
     let f = begun p in
     (subst (SoundState aberzhan sounds) (sym e) (always_sound aberzhan sounds (steps p) (state_of (first p)) (subst (SoundState aberzhan sounds) (sym f.begins) f.good))).meter
 
-reply_by : (b : Bool) → reply_of (cond b Done (Refused 18)) ≡ cond b done (refuses 18)
+reply_by : (b : Bool) → step_reply (cond b (accepted tt) (refused 18)) ≡ cond b done (refuses 18)
 reply_by true = refl
 reply_by false = refl
 
@@ -87,7 +85,7 @@ block_18 : (m : Module) → SoundModule m → (v s1 s3 : List ℤ) (xs : List Sa
     o.0 ≡ cond (m.meter.waits || m.meter.forced) done (refuses 18)
 block_18 m h v s1 s3 xs o e a =
     ap (λ (o : Reply aberzhan × Module). o.0) (allowed_is (call_block v s1 s3) m o a)
-    ∙ ap reply_of (eighteen m v s1 s3 xs h e)
+    ∙ ap step_reply (eighteen m v s1 s3 xs h e)
     ∙ reply_by (m.meter.waits || m.meter.forced)
 
 pub module_demand3 : ModuleDemand3

@@ -3,9 +3,11 @@ use mathlib.Core.Path.{◌≡◌, refl, sym, ap, subst, ◌∙◌}
 use mathlib.Core.Bool.{Bool, true, false, cond}
 use mathlib.Core.List.{List, [], ◌∷◌, ◌++◌, foldl-append}
 use mathlib.Core.Option.{Option, none, some}
+use Rattle.std.specs.Prelude.{Result}
 use Rattle.steps.specs.Port.{Port}
 use Rattle.steps.specs.Module.{State}
 use Rattle.steps.proofs.Work.{LastingWork, always_work}
+use Rattle.refusal.specs.declared.Refusal.{Refusal}
 use Rattle.card.specs.declared.Card.{Card}
 use Rattle.alarm.specs.declared.Alarms.{Alarms}
 use Rattle.interval.specs.declared.Closed.{Closed}
@@ -44,10 +46,10 @@ fresh_shown : OfFresh (λ m. shown m.meter.work ≡ none)
 unfolding fresh_module fresh_of
 fresh_shown n b track config t n1 n2 g = refl
 
-by_any : (m : Module) (q : Port) (r : Holding) → Holds m (number_of (some q)) r → (b : Bool) → m.meter.work.any ≡ b →
+by_any : (m : Module) (q : Port) (r : Result Holding Refusal) (left : Module) → Holds m (number_of (some q)) r left → (b : Bool) → m.meter.work.any ≡ b →
     Telling (cond b (some m.meter.work.last) none) m.watch.alarms r
-by_any m q r h true e = hold_tells m q r h e
-by_any m q r h false e = hold_refused m q r h e
+by_any m q r left h true e = hold_tells m q r left h e
+by_any m q r left h false e = hold_refused m q r left h e
 
 -- at the end of a program that is the interval that closed last
 pub shown_last : (p : Program) → shown p.log.end.meter.work ≡ lastly (closes p)
@@ -58,7 +60,7 @@ shown_last p =
     ap shown same ∙ ends
 
 pub holds_tell : HoldsTell
-holds_tell p q r h =
+holds_tell p q r left h =
     let m = p.log.end in
     subst (λ (a : Alarms). Telling (lastly (closes p)) a r) (every_alarm p).alarms
-    (subst (λ (z : Option Closed). Telling z m.watch.alarms r) (shown_last p) (by_any m q r h m.meter.work.any refl))
+    (subst (λ (z : Option Closed). Telling z m.watch.alarms r) (shown_last p) (by_any m q r left h m.meter.work.any refl))

@@ -4,17 +4,18 @@ use mathlib.Core.Path.{◌≡◌, refl, sym, ap, subst, ◌∙◌}
 use mathlib.Core.Bool.{Bool, true, false, cond, true≢false}
 use mathlib.Core.List.{List, [], ◌∷◌, map}
 use mathlib.Core.Option.{none, some, none-ne-some, some-injective}
-use lib.Dec.{eqb}
 use lib.IntN.{ℤ, pos}
 use lib.ListN.{get_or, length}
 use borrow.Author.Tests.{ne_eqb}
-use Rattle.steps.specs.Answers.{refused, accepted}
+use Rattle.std.specs.Prelude.{Result}
+use Rattle.steps.specs.Answers.{OrRefusal, refused, answer_of}
 use Rattle.steps.specs.Port.{Port, port0, port1}
 use Rattle.steps.specs.Module.{State}
 use Rattle.steps.proofs.Work.{LastingWork, always_work}
+use Rattle.steps.specs.Calls.{Reply}
+use Rattle.refusal.specs.declared.Refusal.{Refusal}
 use Rattle.card.specs.declared.Card.{Card}
 use Rattle.address.specs.declared.WordAddr.{WordAddr}
-use Rattle.address.specs.Slots.{off}
 use Rattle.address.specs.Addresses.{position, register_of, words, trackable, untracked, byte_of}
 use Rattle.rules.specs.Source.{figures_of, six}
 use Rattle.tracking.specs.Tracking.{slots, followed}
@@ -27,18 +28,14 @@ use Rattle.meter.specs.declared.Work.{Work}
 use Rattle.meter.specs.Core.{core, last_of, closed_work}
 use Rattle.meter.specs.Starting.{fresh_of}
 use Rattle.port.specs.declared.Held.{Held}
-use Rattle.port.specs.declared.Reading.{Reading}
-use Rattle.port.specs.declared.Reading.TheVariants.{Value as ReadOut, Refused as NotRead}
 use Rattle.port.specs.Holds.{copy_of, copied}
 use Rattle.port.specs.Reading.{shown_of, registers, slot_off, look}
-use Rattle.port.specs.Answers.{looked}
 use Rattle.aberzhan.specs.declared.Module.{Module}
 use Rattle.aberzhan.specs.declared.Holding.{Holding}
-use Rattle.aberzhan.specs.declared.Looked.{Looked}
-use Rattle.aberzhan.specs.Module.{held_of, port_at, hold_of, read_of, fresh_module}
+use Rattle.aberzhan.specs.Module.{Outcome, held_of, port_at, hold_of, read_of, fresh_module}
 use Rattle.calls.specs.Ports.{ports, aberzhan}
-use Rattle.calls.specs.Calls.{state_of, number_of}
-use Rattle.calls.proofs.Contracts.{Holds, held_by, Reads, read_by}
+use Rattle.calls.specs.Calls.{state_of, number_of, call_read}
+use Rattle.calls.proofs.Contracts.{Holds, held_by, Reads, read_by, allowed_is}
 use Rattle.demands.specs.Program.{Program, first, settings, steps}
 use Rattle.demands.specs.Readings.{Line, table_of, EachLine, Gives, GivesTable, ReadsTell}
 use Rattle.demands.proofs.Demand3.{OfFresh, of_start, module_demand3}
@@ -84,18 +81,8 @@ showing_last p =
     subst (Showing (settings p)) (sym same) ends
 
 -- ---- the table's lines
-slot_by : (b : Bool) (v : ℤ) → looked (cond b (refused 17) (accepted v)) ≡ cond b (NotRead 17) (ReadOut v)
-slot_by true v = refl
-slot_by false v = refl
-
-slot_line : (track : List WordAddr) (values : List ℤ) (k : ℕ) →
-    let b = eqb (get_or track k off).0 0 in
-    let v = get_or values k (pos 0) in
-    looked (cond b (refused 17) (accepted v)) ≡ cond b (NotRead 17) (ReadOut v)
-slot_line track values k = slot_by (eqb (get_or track k off).0 0) (get_or values k (pos 0))
-
 abbrev Looks : List WordAddr → Closed → Line → Type 0
-Looks track z e = looked (look (copy_of z track) (record { 0 = e.0 })) ≡ e.1
+Looks track z e = look (copy_of z track) (record { 0 = e.0 }) ≡ e.1
 
 -- for an interval with these registers
 abbrev with_regs : Closed → Registers → Closed
@@ -104,21 +91,19 @@ with_regs z r = record { number = z.number; serial = z.serial; clips = z.clips; 
 look_laid : (track : List WordAddr) (z : Closed) → EachLine (Looks track (with_regs z (laid z))) (table_of track (with_regs z (laid z)))
 unfolding look copy_of register_of position words trackable untracked byte_of slot_off registers shown_of
 look_laid track z =
-    let low = slot_line track z.regs.ends.low in
-    let high = slot_line track z.regs.ends.high in
-    (refl, (refl, (refl, (refl, (refl, (refl, (refl, (refl, (refl, (refl, (refl, (refl, (refl, (refl, (refl, (refl, (refl, (low 0, (low 1, (low 2, (low 3, (low 4, (low 5, (high 0, (high 1, (high 2, (high 3, (high 4, (high 5, tt)))))))))))))))))))))))))))))
+    (refl, (refl, (refl, (refl, (refl, (refl, (refl, (refl, (refl, (refl, (refl, (refl, (refl, (refl, (refl, (refl, (refl, (refl, (refl, (refl, (refl, (refl, (refl, (refl, (refl, (refl, (refl, (refl, (refl, tt)))))))))))))))))))))))))))))
 
 look_lines : (track : List WordAddr) (z : Closed) → z.regs ≡ laid z → EachLine (Looks track z) (table_of track z)
 look_lines track z e = subst (λ (r : Registers). EachLine (Looks track (with_regs z r)) (table_of track (with_regs z r))) (sym e) (look_laid track z)
 
 -- ---- an address that no line has
-position_none : (a : ℕ) (ys : List ℕ) → EachLine (λ e. e.0 ≡ a → ⊥) (map (λ (y : ℕ). (y, NotRead 16)) ys) → position a ys ≡ length ys
+position_none : (a : ℕ) (ys : List ℕ) → EachLine (λ e. e.0 ≡ a → ⊥) (map (λ (y : ℕ). (y, refused 16)) ys) → position a ys ≡ length ys
 unfolding position
 position_none a [] away = refl
 position_none a (y ∷ ys) away = rw (ne_eqb y a away.0) (ap suc (position_none a ys away.1))
 
 look_elsewhere : (track : List WordAddr) (z : Closed) (a : ℕ) →
-    EachLine (λ e. e.0 ≡ a → ⊥) (table_of track z) → looked (look (copy_of z track) (record { 0 = a })) ≡ NotRead 16
+    EachLine (λ e. e.0 ≡ a → ⊥) (table_of track z) → look (copy_of z track) (record { 0 = a }) ≡ refused 16
 unfolding look copy_of register_of words trackable untracked byte_of
 look_elsewhere track z a away = rw (position_none a (map (λ (w : ℕ). (byte_of (record { 0 = w })).0) words) away)
 
@@ -129,17 +114,15 @@ unfolding hold_of port_at copied
 held_after m port0 e = rw e
 held_after m port1 e = rw e
 
-read_held : (m : Module) (q : Port) (a : ℕ) (r : Looked) → Reads m (number_of (some q)) (record { 0 = a }) r →
-    (r.answer ≡ looked (look (held_of m q) (record { 0 = a }))) × (r.after ≡ m)
+read_held : (m : Module) (q : Port) (a : ℕ) (r : Result ℤ Refusal) → Reads m (number_of (some q)) (record { 0 = a }) r →
+    answer_of r ≡ look (held_of m q) (record { 0 = a })
 unfolding read_of port_at
-read_held m port0 a r h = let e = read_by m (pos 0) (record { 0 = a }) r h in (ap (λ (r : Looked). r.answer) e, ap (λ (r : Looked). r.after) e)
-read_held m port1 a r h = let e = read_by m (pos 1) (record { 0 = a }) r h in (ap (λ (r : Looked). r.answer) e, ap (λ (r : Looked). r.after) e)
+read_held m port0 a r h = read_by m (pos 0) (record { 0 = a }) r h
+read_held m port1 a r h = read_by m (pos 1) (record { 0 = a }) r h
 
 module _ (m : Module) (q : Port) (track : List WordAddr) (z : Closed) (e : held_of m q ≡ copy_of z track) where
-  gives : (a : ℕ) (v : Reading) → looked (look (copy_of z track) (record { 0 = a })) ≡ v → Gives m q a v
-  gives a v l r h =
-      let s = read_held m q a r h in
-      (s.0 ∙ ap (λ (x : Held). looked (look x (record { 0 = a }))) e ∙ l, s.1)
+  gives : (a : ℕ) (v : OrRefusal ℤ) → look (copy_of z track) (record { 0 = a }) ≡ v → Gives m q a v
+  gives a v l r h = read_held m q a r h ∙ ap (λ (x : Held). look x (record { 0 = a })) e ∙ l
 
   each_gives : (es : List Line) → EachLine (Looks track z) es → EachLine (λ l. Gives m q l.0 l.1) es
   each_gives [] t = tt
@@ -148,21 +131,22 @@ module _ (m : Module) (q : Port) (track : List WordAddr) (z : Closed) (e : held_
   gives_table : z.regs ≡ laid z → GivesTable m q track z
   gives_table laid-is = record {
     lines = each_gives (table_of track z) (look_lines track z laid-is);
-    elsewhere = λ a away. gives a (NotRead 16) (look_elsewhere track z a away);
+    elsewhere = λ a away. gives a (refused 16) (look_elsewhere track z a away);
+    same_module = λ a o allows. ap (λ (o : Reply aberzhan × Module). o.1) (allowed_is (call_read (number_of (some q)) (record { 0 = a })) m o allows);
   }
 
 -- the interval that is shown is that one
-by_any : (m : Module) (q : Port) (t : Settings) (h : Holding) (z : Closed) → Holds m (number_of (some q)) h → Showing t m.meter.work →
-    (b : Bool) → m.meter.work.any ≡ b → cond b (some m.meter.work.last) none ≡ some z → GivesTable h.after q t.track z
-by_any m q t h z held s true e f =
+by_any : (m : Module) (q : Port) (t : Settings) (r : Result Holding Refusal) (left : Module) (z : Closed) → Holds m (number_of (some q)) r left → Showing t m.meter.work →
+    (b : Bool) → m.meter.work.any ≡ b → cond b (some m.meter.work.last) none ≡ some z → GivesTable left q t.track z
+by_any m q t r left z held s true e f =
     let last = m.meter.work.last in
     let is-z = some-injective last z f in
-    let on_port : held_of h.after q ≡ copy_of last t.track =
-    ap (λ (h : Holding). held_of h.after q) (held_by m (number_of (some q)) h held) ∙ held_after m q e ∙ ap (λ (t : Settings). copy_of last t.track) s.settings_are in
-    subst (GivesTable h.after q t.track) is-z (gives_table h.after q t.track last on_port (s.last_laid e))
-by_any m q t h z held s false e f = absurd (none-ne-some z f)
+    let on_port : held_of left q ≡ copy_of last t.track =
+    ap (λ (o : Outcome Holding). held_of o.after q) (held_by m (number_of (some q)) r left held) ∙ held_after m q e ∙ ap (λ (t : Settings). copy_of last t.track) s.settings_are in
+    subst (GivesTable left q t.track) is-z (gives_table left q t.track last on_port (s.last_laid e))
+by_any m q t r left z held s false e f = absurd (none-ne-some z f)
 
 pub reads_tell : ReadsTell
-reads_tell p q h held z e =
+reads_tell p q r left held z e =
     let m = p.log.end in
-    by_any m q (settings p) h z held (showing_last p) m.meter.work.any refl (shown_last p ∙ e)
+    by_any m q (settings p) r left z held (showing_last p) m.meter.work.any refl (shown_last p ∙ e)

@@ -1,6 +1,6 @@
 -- What a start returns: the settings asked for, or 7 and the lowest; and in either case a fresh module.
 use Rattle.std.specs.Prelude.{◌≡◌, Bool, false, cond, nat_abs, replicate}
-use Rattle.steps.specs.declared.Answer.TheVariants.{Done, Refused}
+use Rattle.steps.specs.Answers.{refused, accepted, answer_of}
 use Rattle.address.specs.Slots.{off}
 use Rattle.alarm.specs.declared.Asked.{Asked}
 use Rattle.alarm.specs.declared.Limits.{Limits}
@@ -50,7 +50,7 @@ abbrev pub asked_settings : Program → Settings
 asked_settings p = record { n = nat_abs p.n; b = nat_abs p.b; track = p.track; config = nat_abs p.config }
 
 pub record Begins (p : Program) : Type 0 where
-  pub answer : p.started.answer ≡ cond (all_in_range p) Done (Refused 7)
+  pub answer : answer_of p.started.answer ≡ cond (all_in_range p) (accepted tt) (refused 7)
   pub settings_are : settings p ≡ cond (all_in_range p) (asked_settings p) lowest_settings
   pub limits_are : limits p ≡ cond (all_in_range p) (asked_limits p.asked) refused_limits
   pub fresh : Fresh (first p)

@@ -1,17 +1,17 @@
--- A program: a start with any settings, and any turns, calls of steps and polls, one after the other, each with the module that the one before returned.
+-- A program: a start with any settings, and any turns, calls of steps and polls, one after the other, each with the module that the one before left.
 -- The start and every turn come to any outcome that the contracts which the toolchain generates for the methods allow.
-use Rattle.std.specs.Prelude.{ℕ, List, [], ◌∷◌, ℤ}
+use Rattle.std.specs.Prelude.{ℕ, Result, List, [], ◌∷◌, ℤ}
 use Rattle.steps.specs.Module.{Step}
 use Rattle.steps.specs.Run.{Run}
 use Rattle.steps.specs.Calls.{Reply, Log, none_called, noted, asked, run_of}
+use Rattle.refusal.specs.declared.Refusal.{Refusal}
 use Rattle.address.specs.declared.WordAddr.{WordAddr}
 use Rattle.alarm.specs.declared.Asked.{Asked}
 use Rattle.alarm.specs.declared.Limits.{Limits}
 use Rattle.interval.specs.declared.Settings.{Settings}
 use Rattle.interval.specs.declared.Closed.{Closed}
 use Rattle.aberzhan.specs.declared.Module.{Module}
-use Rattle.aberzhan.specs.declared.Stepped.{Stepped}
-use Rattle.aberzhan.specs.declared.Polled.{Polled}
+use Rattle.aberzhan.specs.declared.Started.{Started}
 use Rattle.calls.specs.Ports.{aberzhan}
 use Rattle.calls.specs.Calls.{Call, step_of}
 use Rattle.calls.specs.Turns.{Turn, call, poll, counts_as, calls_of, noted_all}
@@ -23,8 +23,8 @@ pub data Took : List Turn → Module → Log aberzhan Module → Type 0 where
   ended : {m : Module} → Took [] m (none_called aberzhan Module m)
   called : {k : Call} {ts : List Turn} {m : Module} {l : Log aberzhan Module} (o : Reply aberzhan × Module) → Allows k m o → Took ts o.1 l →
       Took (call k ∷ ts) m (noted aberzhan Module (step_of k) o.0 l)
-  polled : {packet buffer : List ℕ} {ts : List Turn} {m : Module} {l : Log aberzhan Module} (r : Polled) (left : List ℕ) → Polls m packet buffer r left →
-      Took ts r.after l → Took (poll packet buffer ∷ ts) m (noted_all (counts_as m (poll packet buffer)) m l)
+  polled : {packet buffer : List ℕ} {ts : List Turn} {m : Module} {l : Log aberzhan Module} (r : Result ℕ Refusal) (z : Module) (left : List ℕ) →
+      Polls m packet buffer r z left → Took ts z l → Took (poll packet buffer ∷ ts) m (noted_all (counts_as m (poll packet buffer)) m l)
 
 pub record Program : Type 0 where
   pub n : ℤ  -- the settings asked for: samples per interval,
@@ -32,15 +32,15 @@ pub record Program : Type 0 where
   pub track : List WordAddr  -- the words to track,
   pub asked : Asked  -- what is asked of the watch,
   pub config : ℤ  -- and the board's configuration
-  pub started : Stepped  -- what the start returned
+  pub started : Started  -- what the start returned
   pub turns : List Turn
   pub log : Log aberzhan Module  -- what came of the turns
   pub start_allowed : Starts n b track asked config started
-  pub turns_allowed : Took turns started.after log
+  pub turns_allowed : Took turns started.module log
 
 -- the module that the start returned, and its settings
 abbrev pub first : Program → Module
-first p = p.started.after
+first p = p.started.module
 
 abbrev pub settings : Program → Settings
 settings p = (first p).meter.work.settings

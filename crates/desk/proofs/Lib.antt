@@ -1,3 +1,4 @@
 -- Laws of a port's desk.
 pub mod Writes
+pub mod Finishing
 pub mod Decided

@@ -49,6 +49,10 @@ finished d =
     (refused 13))
     (refused 10)
 
+-- the card, and the desk is shut
+abbrev pub finishing : Desk → OrRefusal (Card × Desk)
+finishing d = and_then (finished d) (λ c. (c, shut_desk))
+
 -- drop: 10. The desk is shut.
 unfoldable pub discarded : Desk → OrRefusal (Unit {0})
 discarded d = cond d.opened (accepted tt) (refused 10)

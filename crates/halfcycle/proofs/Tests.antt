@@ -3,6 +3,7 @@ use Prim.Native.Nat.{ℕ, ◌≤◌}
 use mathlib.Core.Path.{◌≡◌, sym, ap, ap₂, ◌∙◌}
 use mathlib.Core.Bool.{Bool, true, false, cond, ◌&&◌}
 use mathlib.Core.List.{List}
+use Rattle.std.specs.Prelude.{Some, None}
 use lib.IntN.{ℤ}
 use lib.ListN.{length, take, drop, length-drop}
 use lib.Seq.{take_all}
@@ -48,15 +49,15 @@ module _ (c next : Card) (turn : ℕ) (q : Watching) (v : List ℤ) where
   by_sound b e = ap (λ (b : Bool). cond b (seen_by c next turn q v) q) e
 
   comes : (b : Bool) (r : Watching) → watch_sound q ≡ b → r ≡ passed_by c next turn q v →
-      (record { ok = b; watch = r.watch } ≡ pass_of c next turn q v) × (r.volts ≡ volts_after c next turn q v)
+      (cond b (Some r.watch) None ≡ pass_of c next turn q v) × (r.volts ≡ volts_after c next turn q v)
   unfolding pass_of volts_after
-  comes b r e f = (ap₂ (λ (b : Bool) (z : Watching). record { ok = b; watch = z.watch }) (sym e) f, ap (λ (z : Watching). z.volts) f)
+  comes b r e f = (ap₂ (λ (b : Bool) (z : Watching). cond b (Some z.watch) None) (sym e) f, ap (λ (z : Watching). z.volts) f)
 
   pub pass_yes : (r : Watching) → watch_sound q ≡ true → r ≡ seen_by c next turn q v →
-      (record { ok = true; watch = r.watch } ≡ pass_of c next turn q v) × (r.volts ≡ volts_after c next turn q v)
+      (Some r.watch ≡ pass_of c next turn q v) × (r.volts ≡ volts_after c next turn q v)
   pass_yes r e f = comes true r e (f ∙ sym (by_sound true e))
 
-  pub pass_no : watch_sound q ≡ false → (record { ok = false; watch = q.watch } ≡ pass_of c next turn q v) × (q.volts ≡ volts_after c next turn q v)
+  pub pass_no : watch_sound q ≡ false → (None ≡ pass_of c next turn q v) × (q.volts ≡ volts_after c next turn q v)
   pass_no e = comes false q e (sym (by_sound false e))
 
   -- where no voltage comes with the next card

@@ -1,9 +1,9 @@
 -- Voltages of a block, one after another, with the card in force and, from some place on, the one that came into force behind it.
-use Rattle.std.specs.Prelude.{ℕ, ◌+◌, Bool, cond, ◌&&◌, List, [], ◌∷◌, eqb, leb, ltb, ℤ, take, drop}
+use Rattle.std.specs.Prelude.{ℕ, ◌+◌, Bool, cond, ◌&&◌, Option, Some, None, List, [], ◌∷◌, eqb, leb, ltb, ℤ, take, drop}
 use Rattle.number.specs.Sign.{square_of}
 use Rattle.card.specs.declared.Card.{Card}
 use Rattle.sample.specs.Sample.{every24}
-use Rattle.halfcycle.specs.declared.Passed.{Passed}
+use Rattle.alarm.specs.declared.Watch.{Watch}
 use Rattle.alarm.specs.Alarms.{Watching, seen_with}
 
 -- raw voltages of one card
@@ -32,8 +32,9 @@ watch_sound q =
 unfoldable pub passed_by : Card → Card → ℕ → Watching → List ℤ → Watching
 passed_by c next turn q vs = cond (watch_sound q) (seen_by c next turn q vs) q
 
-unfoldable pub pass_of : Card → Card → ℕ → Watching → List ℤ → Passed
-pass_of c next turn q vs = record { ok = watch_sound q; watch = (passed_by c next turn q vs).watch }
+-- the watch behind them, if it is sound
+unfoldable pub pass_of : Card → Card → ℕ → Watching → List ℤ → Option Watch
+pass_of c next turn q vs = cond (watch_sound q) (Some (passed_by c next turn q vs).watch) None
 
 unfoldable pub volts_after : Card → Card → ℕ → Watching → List ℤ → List ℤ
 volts_after c next turn q vs = (passed_by c next turn q vs).volts

@@ -14,15 +14,8 @@ use card::Card;
 use card::names::{VGAIN, VOFFS};
 use sample::correct;
 
-// The watch after voltages; where it is not ok, no steps have made it, and it is as it came.
-#[derive(Clone, Copy)]
-pub struct Passed {
-    pub ok: bool,
-    pub watch: Watch,
-}
-
 // What a voltage of one card is worked with.
-#[derive(Clone, Copy)]
+#[derive(Clone, Copy, Debug, PartialEq, Eq)]
 pub struct Track {
     pub voffs: i32,
     pub vgain: i32,
@@ -30,7 +23,7 @@ pub struct Track {
 }
 
 // What the loop keeps beside the voltages: the place of the oldest, the sum, and the least and the greatest that it was after a voltage.
-#[derive(Clone, Copy)]
+#[derive(Clone, Copy, Debug, PartialEq, Eq)]
 pub struct Sweep {
     pub at: usize,
     pub sum: u64,
@@ -93,7 +86,7 @@ fn level_of(w: u32, level: u32) -> u64
 }
 
 // What the sum is compared with; full: W were seen. Else, and where a level is off, what no sum is below or above.
-#[derive(Clone, Copy)]
+#[derive(Clone, Copy, Debug, PartialEq, Eq)]
 pub struct Levels {
     pub low: u64,
     pub high: u64,
@@ -180,7 +173,7 @@ fn see(a: Watch, volts: &mut [i32; 512], c: Card, v: &[i32]) -> Watch
         return part(a, volts, c, false, v);
     }
     let blank = left - 1;
-    let b = part(a, volts, c, false, &v[0..blank]);
+    let b = part(a, volts, c, false, &v[..blank]);
     part(b, volts, c, true, &v[blank..])
 }
 
@@ -190,14 +183,11 @@ fn is_sum(sum: u64, volts: &[i32]) -> bool
     ensures { result ≡ (every24 volts.now && eqb sum (squares volts.now)) }
 {
     let mut total: u64 = 0;
-    let mut k: usize = 0;
-    while k < 512 {
-        let x = volts[k];
-        if !range::in_range(x) {
+    for x in volts {
+        if !range::in_range(*x) {
             return false;
         }
-        total += number::square(x);
-        k += 1;
+        total += number::square(*x);
     }
     sum == total
 }
@@ -217,22 +207,27 @@ fn sound(a: Watch, volts: &[i32]) -> bool
         & kept
 }
 
-// The voltages of a block: the first `turn` of them with one card, the others with the next.
-pub fn pass(a: Watch, volts: &mut [i32; 512], c: Card, next: Card, turn: usize, v: &[i32]) -> Passed
+// The watch after the voltages of a block: the first `turn` of them with one card, the others with the next. None where no steps have made it: then
+// nothing is seen.
+pub fn pass(
+    a: Watch,
+    volts: &mut [i32; 512],
+    c: Card,
+    next: Card,
+    turn: usize,
+    v: &[i32],
+) -> Option<Watch>
     ensures value { result ≡ pass_of c next turn (both a volts.old) v.now }
     ensures volts_after { volts.new ≡ volts_after c next turn (both a volts.old) v.now }
 {
     if sound(a, volts) {
         if turn < v.len() {
-            let b = see(a, volts, c, &v[0..turn]);
+            let b = see(a, volts, c, &v[..turn]);
             let watch = see(b, volts, next, &v[turn..]);
-            return Passed { ok: true, watch };
+            return Some(watch);
         }
         let watch = see(a, volts, c, v);
-        return Passed { ok: true, watch };
+        return Some(watch);
     }
-    Passed {
-        ok: false,
-        watch: a,
-    }
+    None
 }

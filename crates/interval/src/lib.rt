@@ -169,7 +169,7 @@ impl Closed {
         let serial = c.serial;
         let clips = s.clips;
         Closed {
-            number: std::num::wrapping_add_u32(self.number, 1),
+            number: self.number.wrapping_add(1),
             serial,
             clips,
             regs,

@@ -6,9 +6,9 @@ use mathlib.Core.List.{List, ◌++◌, append-nil, append_assoc}
 use native.Mathlib.Omega.{arith}
 use Rattle.section.specs.Sections.{entry_at}
 use Rattle.book.specs.Book.{cards, withdrawn, well_formed}
-use Rattle.reader.specs.Walk.{step_after}
+use Rattle.reader.specs.Walk.{Step, step_after}
 use Rattle.reader.proofs.Promise.{promise}
-use Rattle.listing.specs.Lines.{card_line, withdrawn_line, lines, entries_text, line_at, step_text, WalkedListing}
+use Rattle.listing.specs.Lines.{card_line, withdrawn_line, lines, entries_text, line_at, found_text, WalkedListing}
 
 -- lines that agree one by one agree together
 lines_same : (p q : ℕ → List ℕ) (n : ℕ) → ((k : ℕ) → k < n → p k ≡ q k) → lines p n ≡ lines q n
@@ -25,18 +25,22 @@ lines_apart p n (suc m) =
     ap (lines p) z ∙ ap (λ (l : List ℕ). l ++ p (n + m)) (lines_apart p n m) ∙ append_assoc (lines p n) (lines (λ (j : ℕ). p (n + j)) m) (p (n + m))
 
 module _ (b : List ℕ) (formed : well_formed b ≡ true) where
-  card_walked : (k : ℕ) → k < (cards b).count → step_text b (step_after b k) ≡ card_line b k
-  unfolding line_at card_line entry_at
-  card_walked k h = ap (step_text b) ((promise b formed).each_card k h)
+  -- the line of step k
+  abbrev step_text : ℕ → List ℕ
+  step_text k = found_text b (step_after b k).found
 
-  serial_walked : (j : ℕ) → j < (withdrawn b).count → step_text b (step_after b ((cards b).count + j)) ≡ withdrawn_line b j
-  unfolding line_at withdrawn_line entry_at
-  serial_walked j h = ap (step_text b) ((promise b formed).each_serial j h)
+  card_walked : (k : ℕ) → k < (cards b).count → step_text k ≡ card_line b k
+  unfolding found_text line_at card_line entry_at
+  card_walked k h = ap (λ (s : Step). found_text b s.found) ((promise b formed).each_card k h)
+
+  serial_walked : (j : ℕ) → j < (withdrawn b).count → step_text ((cards b).count + j) ≡ withdrawn_line b j
+  unfolding found_text line_at withdrawn_line entry_at
+  serial_walked j h = ap (λ (s : Step). found_text b s.found) ((promise b formed).each_serial j h)
 
 pub walked_listing : WalkedListing
 unfolding entries_text
 walked_listing b formed =
-    lines_apart (λ (k : ℕ). step_text b (step_after b k)) (cards b).count (withdrawn b).count
-    ∙ ap (λ (l : List ℕ). l ++ lines (λ (j : ℕ). step_text b (step_after b ((cards b).count + j))) (withdrawn b).count)
+    lines_apart (step_text b formed) (cards b).count (withdrawn b).count
+    ∙ ap (λ (l : List ℕ). l ++ lines (λ (j : ℕ). step_text b formed ((cards b).count + j)) (withdrawn b).count)
     (lines_same _ (card_line b) (cards b).count (card_walked b formed))
     ∙ ap (λ (l : List ℕ). lines (card_line b) (cards b).count ++ l) (lines_same _ (withdrawn_line b) (withdrawn b).count (serial_walked b formed))

@@ -1,13 +1,13 @@
 -- The lines of the listing. One space, 32, parts the items of a line; a line feed, 10, ends it.
-use Rattle.std.specs.Prelude.{ℕ, zero, suc, ◌+◌, ◌≡◌, Bool, true, false, cond, List, [], ◌∷◌, ◌++◌, ℤ}
+use Rattle.std.specs.Prelude.{ℕ, zero, suc, ◌+◌, ◌≡◌, true, cond, List, [], ◌∷◌, ◌++◌, ℤ, Option, Some, None}
 use Rattle.serial.specs.Places.{part}
 use Rattle.serial.specs.Serials.{text_of}
 use Rattle.card.specs.Cards.{fields_at}
 use Rattle.section.specs.Sections.{entry_at}
 use Rattle.book.specs.Book.{cards, withdrawn, well_formed}
+use Rattle.reader.specs.declared.Kind.{Kind}
+use Rattle.reader.specs.declared.Kind.TheVariants.{Card, Withdrawn}
 use Rattle.reader.specs.declared.Entry.{Entry}
-use Rattle.reader.specs.declared.Entry.TheVariants as entry
-use Rattle.reader.specs.declared.Step.{Step}
 use Rattle.reader.specs.Walk.{step_after}
 use Rattle.decimal.specs.Decimals.{decimal, signed_decimal}
 
@@ -59,23 +59,17 @@ unfoldable pub listing : List ℕ → List ℕ
 listing b = cond (well_formed b) (first_line b ++ entries_text b) refused_line
 
 -- ---- a listing made by a walk
--- whether a reader stands at an entry, and not at the end
-abbrev pub is_entry : Entry → Bool
-is_entry entry.Card = true
-is_entry entry.Withdrawn = true
-is_entry entry.End = false
+-- the line of an entry of a kind that stands at a place
+unfoldable pub line_at : List ℕ → Kind → ℕ → List ℕ
+line_at b Card at = card_text (part b at 37)
+line_at b Withdrawn at = serial_text (part b at 13)
 
--- the line of what stands at a place
-unfoldable pub line_at : List ℕ → Entry → ℕ → List ℕ
-line_at b entry.Card at = card_text (part b at 37)
-line_at b entry.Withdrawn at = serial_text (part b at 13)
-line_at b entry.End at = []
-
--- the line of what a reader finds
-abbrev pub step_text : List ℕ → Step → List ℕ
-step_text b s = line_at b s.entry s.at
+-- the line of what a reader finds, and none at the end
+unfoldable pub found_text : List ℕ → Option Entry → List ℕ
+found_text b (Some e) = line_at b e.kind e.at
+found_text b None = []
 
 -- what is promised of it: the lines of the steps of a walk are those of the definition
 abbrev pub WalkedListing : Type 0
 WalkedListing =
-    (b : List ℕ) → well_formed b ≡ true → lines (λ (k : ℕ). step_text b (step_after b k)) ((cards b).count + (withdrawn b).count) ≡ entries_text b
+    (b : List ℕ) → well_formed b ≡ true → lines (λ (k : ℕ). found_text b (step_after b k).found) ((cards b).count + (withdrawn b).count) ≡ entries_text b

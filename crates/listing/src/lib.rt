@@ -5,10 +5,10 @@ ghost use Rattle.std.specs.Prelude.{◌≡◌, ◌+◌, ◌≤◌, length};
 ghost use Rattle.serial.specs.Places.{part, put};
 ghost use Rattle.decimal.specs.Decimals.{signed_decimal};
 ghost use Rattle.serial.specs.Serials.{text_of};
-ghost use Rattle.listing.specs.Lines.{fields_text, card_text, serial_text, first_line, is_entry, step_text, entries_text, listing};
+ghost use Rattle.listing.specs.Lines.{fields_text, card_text, serial_text, first_line, line_at, entries_text, listing};
 ghost use Rattle.listing.specs.Buffer.{Made, Open};
 
-use reader::{Entry, Step};
+use reader::{Entry, Kind, Reader};
 
 // No listing is longer: the first line has at most 28 bytes, and each of at most 1,536 others 134.
 pub const ROOM: usize = 205852;
@@ -27,10 +27,7 @@ fn put_number(out: &mut [u8; ROOM], at: usize, v: i64) -> usize
     requires { at + length (signed_decimal v) ≤ 205852 }
     ensures { Made out.old out.new at result (signed_decimal v) × (length out.old ≡ 205852) }
 {
-    let t = decimal::number_text(v);
-    let bytes = t.bytes;
-    let from = t.from;
-    put_text(out, at, &bytes[from..])
+    put_text(out, at, decimal::number_text(v).text())
 }
 
 // n bytes from a place on, as far as there are.
@@ -62,12 +59,9 @@ fn put_fields(out: &mut [u8; ROOM], from: usize, fields: [i32; 8]) -> usize
     ensures { Made out.old out.new from result (fields_text fields) × (result ≤ from + 96) }
 {
     let mut at = from;
-    let mut i = 0;
-    while i < 8 {
-        let v = fields[i];
-        let next = put_text(out, at, b" ");
-        at = put_number(out, next, v as i64);
-        i += 1;
+    for field in fields {
+        let place = put_text(out, at, b" ");
+        at = put_number(out, place, field as i64);
     }
     at
 }
@@ -106,42 +100,25 @@ fn put_first(out: &mut [u8; ROOM], book: &[u8]) -> usize
     put_text(out, d, b"\n")
 }
 
-// Whether the reader stands at an entry, and not at the end.
-fn is_entry(s: Step) -> bool
-    ensures { result ≡ is_entry s.entry }
-{
-    let e = s.entry;
-    match e {
-        Entry::Card => true,
-        Entry::Withdrawn => true,
-        Entry::End => false,
-    }
-}
-
-// Puts the line of the entry where the reader stands.
-fn put_step(book: &[u8], s: Step, out: &mut [u8; ROOM], from: usize) -> usize
+// Puts the line of an entry.
+fn put_entry(book: &[u8], entry: Entry, out: &mut [u8; ROOM], from: usize) -> usize
     requires { from + 134 ≤ 205852 }
-    ensures { Made out.old out.new from result (step_text book.now s) × (result ≤ from + 134) }
+    ensures { Made out.old out.new from result (line_at book.now entry.kind entry.at) × (result ≤ from + 134) }
 {
-    let e = s.entry;
-    let at = s.at;
-    match e {
-        Entry::Card => put_card(out, from, part_of(book, at, 37)),
-        Entry::Withdrawn => put_serial(out, from, part_of(book, at, 13)),
-        Entry::End => from,
+    match entry.kind {
+        Kind::Card => put_card(out, from, part_of(book, entry.at, 37)),
+        Kind::Withdrawn => put_serial(out, from, part_of(book, entry.at, 13)),
     }
 }
 
-// Puts a line for each entry, in one walk of a reader from the first to the end.
+// Puts a line for each entry, in one walk of a reader.
 fn put_entries(book: &[u8], out: &mut [u8; ROOM], from: usize) -> usize
     requires { Open book.now out.old from }
     ensures { Made out.old out.new from result (entries_text book.now) × (result ≤ 205852) }
 {
-    let mut r = reader::new(book);
     let mut at = from;
-    while is_entry(r.here) {
-        at = put_step(book, r.here, out, at);
-        r = reader::next(r);
+    for entry in Reader::new(book) {
+        at = put_entry(book, entry, out, at);
     }
     at
 }

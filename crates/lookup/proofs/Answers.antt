@@ -1,33 +1,17 @@
--- Laws of the answers: what an arm that is no place knows, what an accepted answer says of the checks, and that no place is beyond the book.
+-- Laws of the answers: what an accepted answer says of the checks, and that no place is beyond the book.
 use Prim.Native.Nat.{ℕ, suc, ◌+◌, ◌≤◌, ◌<◌}
 use mathlib.Core.Path.{◌≡◌, refl, sym, ap}
 use mathlib.Core.Bool.{Bool, true, false, not}
-use mathlib.Core.List.{List, [], ◌∷◌}
-use mathlib.Core.Logic.{⊎_elim}
+use mathlib.Core.List.{List}
 use native.Mathlib.Omega.{arith}
 use lib.ListN.{length}
-use lib.Dec.{eqb}
-use types.Run.{OneOf}
-use denote.Enum.Declared.{tag_of}
 use borrow.Author.Tests.{not-true, ltb-true}
 use Rattle.serial.specs.Serials.{is_serial}
 use Rattle.section.specs.Sections.{place_of, find_in, has}
 use Rattle.book.specs.Book.{cards, withdrawn, well_formed}
 use Rattle.book.specs.Answers.{Answer, accepted, ask}
-use Rattle.lookup.specs.Answers.{found_answer}
 use Rattle.lookup.specs.Lookup.{seek_of, lookup_of}
-use Rattle.lookup.specs.declared.Found.{Found}
-use Rattle.lookup.specs.declared.Found.TheVariants as found
-use Rattle.lookup.specs.contracts.Found as Found-type
 use Rattle.book.proofs.Sections.{formed_sized}
-
--- an answer of lookup that is no place refuses
-pub not_at : (r : Found) → OneOf (1 ∷ 2 ∷ 3 ∷ 4 ∷ []) (tag_of Found-type.the_type r) → (eqb (found_answer r).number 0 ≡ false) × ((found_answer r).value ≡ 0)
-not_at (found.At n) h = absurd (⊎_elim (λ e. omega arith) (⊎_elim (λ e. omega arith) (⊎_elim (λ e. omega arith) (λ e. omega arith))) h)
-not_at found.NotSerial h = (refl, refl)
-not_at found.Malformed h = (refl, refl)
-not_at found.Withdrawn h = (refl, refl)
-not_at found.NoCard h = (refl, refl)
 
 -- ---- an accepted answer: each test passed
 pub ask_passed : (t : Bool) (r n : ℕ) (a : Answer) → ask t (suc r) a ≡ accepted n → (t ≡ true) × (a ≡ accepted n)

@@ -1,4 +1,3 @@
 -- Lookup in the card book, from document 01; and what may be relied on.
-pub mod Answers
 pub mod Lookup
 pub mod Promises

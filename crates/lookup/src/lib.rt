@@ -2,43 +2,34 @@
 #![tactic(auto)]
 
 ghost use Rattle.std.specs.Prelude.{◌≡◌, ◌+◌};
-ghost use Rattle.lookup.specs.Answers.{found_answer};
+ghost use Rattle.book.specs.Answers.{answer_of};
 ghost use Rattle.lookup.specs.Lookup.{seek_of, lookup_of, card_part};
 
-// What lookup finds.
-#[derive(Clone, Copy)]
-pub enum Found {
-    At(usize),
-    NotSerial,
-    Malformed,
-    Withdrawn,
-    NoCard,
-}
+use refusal::Refusal;
 
 // The answer of lookup in a well-formed book.
-fn seek(b: &[u8], text: &[u8]) -> Found
-    ensures { found_answer result ≡ seek_of b.now text.now }
+fn seek(b: &[u8], text: &[u8]) -> Result<usize, Refusal>
+    ensures { answer_of result ≡ seek_of b.now text.now }
 {
-    if section::has(b, book::withdrawn(b), text) {
-        return Found::Withdrawn;
+    if book::withdrawn(b).has(b, text) {
+        return Err(Refusal::Withdrawn);
     }
-    let s = book::cards(b);
-    let k = section::find(b, s, text);
-    if k < s.count {
-        return Found::At(2 + k * 37);
+    let cards = book::cards(b);
+    match cards.find(b, text) {
+        Some(k) => Ok(cards.base + k * cards.size),
+        None => Err(Refusal::NoCard),
     }
-    Found::NoCard
 }
 
 // Looks a serial up: the place of its card's first byte, or the refusal.
-pub fn lookup(book: &[u8], text: &[u8]) -> Found
-    ensures { found_answer result ≡ lookup_of book.now text.now }
+pub fn lookup(book: &[u8], text: &[u8]) -> Result<usize, Refusal>
+    ensures { answer_of result ≡ lookup_of book.now text.now }
 {
     if !serial::is_serial(text) {
-        return Found::NotSerial;
+        return Err(Refusal::NotSerial);
     }
     if !book::is_book(book) {
-        return Found::Malformed;
+        return Err(Refusal::Malformed);
     }
     seek(book, text)
 }
@@ -50,10 +41,7 @@ pub fn card_of<'a>(book: &'a [u8], text: &[u8]) -> &'a [u8]
         × (result.ref_ptr.1 ≡ book.entry.ref_ptr.1 + (lookup_of book.now text.now).value) }
 {
     match lookup(book, text) {
-        Found::At(n) => {
-            let end = n + 37;
-            &book[n..end]
-        }
-        _ => &book[0..0],
+        Ok(n) => &book[n..n + 37],
+        Err(_) => &book[..0],
     }
 }

@@ -3,16 +3,17 @@ use Prim.Native.Nat.{ℕ, ◌≤◌}
 use mathlib.Core.Path.{◌≡◌, refl, sym, ap}
 use mathlib.Core.Bool.{Bool, true, false, cond, ◌&&◌, true≢false}
 use mathlib.Core.List.{List}
-use lib.Dec.{T, leb, lit≤}
+use lib.Dec.{T, lit≤}
 use lib.IntN.{ℤ, pos, negsuc, nat_abs}
 use lib.Signed.{le_z, non_neg}
 use borrow.Author.Tests.{leb-true}
+use Rattle.steps.specs.Answers.{OrRefusal, refused, accepted}
 use Rattle.address.specs.declared.WordAddr.{WordAddr}
 use Rattle.address.specs.Slots.{every_slot}
 use Rattle.meter.proofs.Sound.{Sound}
 use Rattle.sample.specs.Inside.{Phased}
-use Rattle.meter.specs.Starting.{numbers_ok, config_ok, no_card, fresh_of, lowest_meter, start_of}
-use Rattle.meter.specs.declared.Started.{Started}
+use Rattle.meter.specs.Starting.{numbers_ok, config_ok, no_card, fresh_of, starting}
+use Rattle.meter.specs.declared.Meter.{Meter}
 
 -- a fresh module is sound
 no_card_phased : Phased no_card
@@ -34,11 +35,11 @@ fresh_sound n b track config n1 n2 = record {
 }
 
 -- ---- the ways through a start
-abbrev pub made : Bool → ℤ → ℤ → List WordAddr → ℤ → Started
-made t n b track config = cond t (record { ok = true; meter = fresh_of (nat_abs n) (nat_abs b) track (nat_abs config) }) (record { ok = false; meter = lowest_meter })
+abbrev pub made : Bool → ℤ → ℤ → List WordAddr → ℤ → OrRefusal Meter
+made t n b track config = cond t (accepted (fresh_of (nat_abs n) (nat_abs b) track (nat_abs config))) (refused 7)
 
-pub start_by : (t : Bool) (n b : ℤ) (track : List WordAddr) (config : ℤ) → (numbers_ok n b && every_slot track && config_ok config) ≡ t → made t n b track config ≡ start_of n b track config
-unfolding start_of
+pub start_by : (t : Bool) (n b : ℤ) (track : List WordAddr) (config : ℤ) → (numbers_ok n b && every_slot track && config_ok config) ≡ t → made t n b track config ≡ starting n b track config
+unfolding starting
 start_by t n b track config e = ap (λ (t : Bool). made t n b track config) (sym e)
 
 -- the numbers of a start that is taken
@@ -57,8 +58,3 @@ numbers_in n b e =
     let c2 : _ = both_of _ _ c3.0 in
     let c1 : _ = both_of _ _ c2.0 in
     (between n 4096 c1.0 c1.1, between b 281474976710655 c2.1 c3.1)
-
-pub config_in : (config : ℤ) → config_ok config ≡ true → T (non_neg config) × (nat_abs config ≤ 255)
-unfolding config_ok
-config_in (pos n) e = (tt, leb-true n 255 (both_of (leb 0 n) (leb n 255) e).1)
-config_in (negsuc n) e = absurd (true≢false (sym e))

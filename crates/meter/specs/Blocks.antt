@@ -1,7 +1,7 @@
 -- A card that waits, and a block of samples: 5, 6, 18.
 use Rattle.std.specs.Prelude.{Bool, cond, ◌&&◌, ◌||◌, List, leb, ltb, ℤ}
 use Rattle.std.proofs.Math.Option.{Option, none}
-use Rattle.steps.specs.Answers.{OrRefusal, refused, accepted}
+use Rattle.steps.specs.Answers.{OrRefusal, refused, accepted, and_then}
 use Rattle.steps.specs.Gauge.{Metering, latest, waits_for, passes}
 use Rattle.card.specs.declared.Card.{Card}
 use Rattle.interval.specs.declared.Closed.{Closed}
@@ -9,8 +9,7 @@ use Rattle.sample.specs.Sums.{of_at_most, phase_in_range}
 use Rattle.alarm.specs.Alarms.{Watching}
 use Rattle.halfcycle.specs.Passing.{watch_sound}
 use Rattle.meter.specs.declared.Meter.{Meter as Kept}
-use Rattle.steps.specs.declared.Answer.TheVariants.{Done, Refused}
-use Rattle.meter.specs.declared.Taken.{Taken}
+use Rattle.meter.specs.declared.Fed.{Fed}
 use Rattle.meter.specs.Core.{core, samples_of, meter_of, kept_of, metering_of}
 
 -- no sum of the running interval can overflow: it is not full, its sums can be those of as many samples as it has, and the PHASE of the card in
@@ -37,15 +36,14 @@ wait_of c m = kept_of (waits_for core c (meter_of m))
 unfoldable pub block_done : Kept → Watching → List ℤ → List ℤ → List ℤ → OrRefusal (Metering core × List Closed)
 block_done m q v s1 s3 = passes core (samples_of v s1 s3) (next_card m q) (metering_of m q)
 
--- document 01's number for each answer, and meter and watch afterwards: as they came, if refused
-abbrev pub answered : Kept → Watching → OrRefusal (Metering core × List Closed) → Taken
-answered m q (refused n) = record { answer = Refused n; after = m; watch = q.watch }
-answered m q (accepted r) = record { answer = Done; after = kept_of r.0.intervals; watch = r.0.watch.watch }
+-- meter and watch after it
+abbrev pub fed : Metering core × List Closed → Fed
+fed r = record { meter = kept_of r.0.intervals; watch = r.0.watch.watch }
 
-unfoldable pub block_of : Kept → Watching → List ℤ → List ℤ → List ℤ → Taken
-block_of m q v s1 s3 = answered m q (block_done m q v s1 s3)
+unfoldable pub block_of : Kept → Watching → List ℤ → List ℤ → List ℤ → OrRefusal Fed
+block_of m q v s1 s3 = and_then (block_done m q v s1 s3) fed
 
--- and the voltages afterwards
+-- and the voltages: as they came, if refused
 abbrev pub volts_in : Watching → OrRefusal (Metering core × List Closed) → List ℤ
 volts_in q (refused n) = q.volts
 volts_in q (accepted r) = r.0.watch.volts

@@ -1,15 +1,15 @@
 -- What the meter's own functions do: samples fed, and an interval's samples at a time. No public contract rests on it.
 use Rattle.std.specs.Prelude.{ℕ, ◌+◌, ◌-◌, cond, List, eqb, ℤ, length}
-use Rattle.steps.specs.Answers.{accepted}
+use Rattle.steps.specs.Answers.{OrRefusal, accepted, and_then}
 use Rattle.steps.specs.Gauge.{samples, begun, passes}
 use Rattle.card.specs.declared.Card.{Card}
 use Rattle.sample.specs.Sums.{Sample, samples_in, added_all}
 use Rattle.alarm.specs.Alarms.{Watching}
 use Rattle.meter.specs.declared.Work.{Work}
 use Rattle.meter.specs.declared.Meter.{Meter as Kept}
-use Rattle.meter.specs.declared.Taken.{Taken}
+use Rattle.meter.specs.declared.Fed.{Fed}
 use Rattle.meter.specs.Core.{core, meter_of, kept_of, metering_of, with_sums, closed_work}
-use Rattle.meter.specs.Blocks.{next_card, answered, volts_in}
+use Rattle.meter.specs.Blocks.{next_card, fed, volts_in}
 
 -- samples, taken one after another
 unfoldable pub fed_of : Kept → List Sample → Kept
@@ -42,8 +42,8 @@ unfoldable pub turn_of : Kept → ℕ
 turn_of m = cond (eqb m.taken 0) 0 (m.work.settings.n - m.taken)
 
 -- a block whose samples are well formed
-unfoldable pub passed_of : Kept → Watching → List ℤ → List ℤ → List ℤ → Taken
-passed_of m q v s1 s3 = answered m q (passes core (accepted (samples_in v s1 s3)) (next_card m q) (metering_of m q))
+unfoldable pub passed_of : Kept → Watching → List ℤ → List ℤ → List ℤ → OrRefusal Fed
+passed_of m q v s1 s3 = and_then (passes core (accepted (samples_in v s1 s3)) (next_card m q) (metering_of m q)) fed
 
 unfoldable pub volts_passed : Kept → Watching → List ℤ → List ℤ → List ℤ → List ℤ
 volts_passed m q v s1 s3 = volts_in q (passes core (accepted (samples_in v s1 s3)) (next_card m q) (metering_of m q))

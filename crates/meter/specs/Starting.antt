@@ -1,7 +1,8 @@
 -- The start of a module: N 1 to 4,096, B 1 to 2^48 - 1, six words to track, each 0 or one that can be tracked, and the board's configuration, 0 to
 -- 255.
-use Rattle.std.specs.Prelude.{ℕ, Bool, true, false, cond, ◌&&◌, List, ℤ, pos, nat_abs, replicate}
+use Rattle.std.specs.Prelude.{ℕ, Bool, false, cond, ◌&&◌, List, ℤ, pos, nat_abs, replicate}
 use Rattle.std.specs.Int.Signed.{le_z}
+use Rattle.steps.specs.Answers.{OrRefusal, refused, accepted}
 use Rattle.card.specs.declared.Card.{Card}
 use Rattle.serial.specs.Serials.{no_serial}
 use Rattle.address.specs.declared.WordAddr.{WordAddr}
@@ -10,7 +11,6 @@ use Rattle.sample.specs.Sums.{no_sums}
 use Rattle.interval.specs.Close.{none_closed}
 use Rattle.meter.specs.declared.Work.{Work}
 use Rattle.meter.specs.declared.Meter.{Meter}
-use Rattle.meter.specs.declared.Started.{Started}
 
 -- N and B in range
 unfoldable pub numbers_ok : ℤ → ℤ → Bool
@@ -35,8 +35,8 @@ fresh_of n b track config = record { waits = false; waiting = no_card; forced = 
 abbrev pub lowest_meter : Meter
 lowest_meter = fresh_of 1 1 (replicate 6 off) 0
 
--- where one of the settings is out of range, all are at their lowest
-unfoldable pub start_of : ℤ → ℤ → List WordAddr → ℤ → Started
-start_of n b track config =
-    cond (numbers_ok n b && every_slot track && config_ok config) (record { ok = true; meter = fresh_of (nat_abs n) (nat_abs b) track (nat_abs config) })
-    (record { ok = false; meter = lowest_meter })
+-- 7: one of the settings is out of range
+unfoldable pub starting : ℤ → ℤ → List WordAddr → ℤ → OrRefusal Meter
+starting n b track config =
+    cond (numbers_ok n b && every_slot track && config_ok config) (accepted (fresh_of (nat_abs n) (nat_abs b) track (nat_abs config)))
+    (refused 7)

@@ -5,18 +5,19 @@ ghost use Rattle.std.specs.Prelude.{◌≡◌, true, ◌&&◌, ◌+◌, ◌-◌,
 ghost use Rattle.sample.specs.Sample.{every24};
 ghost use Rattle.sample.specs.Sums.{samples_in, same_length};
 ghost use Rattle.meter.specs.Core.{with_sums, closed_work};
+ghost use Rattle.steps.specs.Answers.{answer_of};
 ghost use Rattle.alarm.specs.Alarms.{both};
 ghost use Rattle.meter.specs.Blocks.{sound_of, carded, wait_of, block_of, volts_of};
 ghost use Rattle.meter.specs.Inside.{begun_of, end_of, stretch_of, fed_of, card_behind, turn_of, passed_of, volts_passed};
-ghost use Rattle.meter.specs.Starting.{fresh_of, lowest_meter, start_of};
+ghost use Rattle.meter.specs.Starting.{fresh_of, lowest_meter, starting};
 
 use address::WordAddr;
 use alarm::Watch;
 use card::Card;
 use interval::{Closed, Settings};
+use refusal::Refusal;
 use sample::{Sums, phase_in_range};
 use serial::Serial;
-use steps::Answer;
 
 // What outlives an interval, with the sums of the one that runs. any: whether any interval has; last: the one that closed last.
 #[derive(Clone, Copy)]
@@ -38,18 +39,10 @@ pub struct Meter {
     pub work: Work,
 }
 
-// What a start makes of N, B, the six words to track and the configuration; at its lowest where one of them is out of range.
+// Meter and watch after a block.
 #[derive(Clone, Copy)]
-pub struct Started {
-    pub ok: bool,
+pub struct Fed {
     pub meter: Meter,
-}
-
-// What a block answers, and meter and watch after it: as they came, if refused.
-#[derive(Clone, Copy)]
-pub struct Taken {
-    pub answer: Answer,
-    pub after: Meter,
     pub watch: Watch,
 }
 
@@ -198,55 +191,50 @@ impl Meter {
     }
 
     // The samples pass the watch, and are fed: 18. The watch is told once where the card changes, so that its voltages are not copied.
-    fn pass(mut self, a: Watch, volts: &mut [i32; 512], v: &[i32], s1: &[i32], s3: &[i32]) -> Taken
+    fn pass(
+        self,
+        a: Watch,
+        volts: &mut [i32; 512],
+        v: &[i32],
+        s1: &[i32],
+        s3: &[i32],
+    ) -> Result<Fed, Refusal>
         requires { same_length v.now s1.now s3.now ≡ true }
-        ensures value { result ≡ passed_of self (both a volts.old) v.now s1.now s3.now }
+        ensures value { answer_of result ≡ passed_of self (both a volts.old) v.now s1.now s3.now }
         ensures volts_after { volts.new ≡ volts_passed self (both a volts.old) v.now s1.now s3.now }
     {
-        if self.has_card() {
-            let next = self.card_behind();
-            let turn = self.turn();
-            let p = halfcycle::pass(a, volts, self.force, next, turn, v);
-            let watch = p.watch;
-            if p.ok {
-                self = self.feed(v, s1, s3);
-                return Taken {
-                    answer: Answer::Done,
-                    after: self,
-                    watch,
-                };
-            }
+        if !self.has_card() {
+            return Err(Refusal::NoCardYet);
         }
-        Taken {
-            answer: Answer::Refused(18),
-            after: self,
-            watch: a,
-        }
+        let next = self.card_behind();
+        let Some(watch) = halfcycle::pass(a, volts, self.force, next, self.turn(), v) else {
+            return Err(Refusal::NoCardYet);
+        };
+        let meter = self.feed(v, s1, s3);
+        Ok(Fed { meter, watch })
     }
 
     // A block of samples, voltage and both inputs: 5, 6, 18. volts has the last voltages of the watch.
-    pub fn block(self, a: Watch, volts: &mut [i32; 512], v: &[i32], s1: &[i32], s3: &[i32]) -> Taken
-        ensures value { result ≡ block_of self (both a volts.old) v.now s1.now s3.now }
+    pub fn block(
+        self,
+        a: Watch,
+        volts: &mut [i32; 512],
+        v: &[i32],
+        s1: &[i32],
+        s3: &[i32],
+    ) -> Result<Fed, Refusal>
+        ensures value { answer_of result ≡ block_of self (both a volts.old) v.now s1.now s3.now }
         ensures volts_after { volts.new ≡ volts_of self (both a volts.old) v.now s1.now s3.now }
     {
         let n = v.len();
-        if (n == s1.len()) & (n == s3.len()) {
-            if n <= 4096 {
-                if all_three(v, s1, s3) {
-                    return self.pass(a, volts, v, s1, s3);
-                }
-                return Taken {
-                    answer: Answer::Refused(6),
-                    after: self,
-                    watch: a,
-                };
-            }
+        let fits = (n == s1.len()) & (n == s3.len()) & (n <= 4096);
+        if !fits {
+            return Err(Refusal::BlockSize);
         }
-        Taken {
-            answer: Answer::Refused(5),
-            after: self,
-            watch: a,
+        if !all_three(v, s1, s3) {
+            return Err(Refusal::SampleRange);
         }
+        self.pass(a, volts, v, s1, s3)
     }
 }
 
@@ -264,16 +252,15 @@ fn all_three(v: &[i32], s1: &[i32], s3: &[i32]) -> bool
 fn fresh(n: u32, b: u64, track: [WordAddr; 6], config: u8) -> Meter
     ensures { result ≡ fresh_of n b track config }
 {
-    let none = Serial::none();
-    let c = Card {
-        serial: none,
+    let none = Card {
+        serial: Serial::none(),
         fields: [0; 8],
     };
     Meter {
         waits: false,
-        waiting: c,
+        waiting: none,
         forced: false,
-        force: c,
+        force: none,
         taken: 0,
         work: Work {
             settings: Settings {
@@ -296,19 +283,14 @@ pub fn lowest() -> Meter
     fresh(1, 1, [WordAddr(0); 6], 0)
 }
 
-// A start with N, B, the six words to track and the configuration.
-pub fn start(n: i64, b: i64, track: [WordAddr; 6], config: i64) -> Started
-    ensures { result ≡ start_of n b track config }
+// A start with N, B, the six words to track and the configuration: 7.
+pub fn start(n: i64, b: i64, track: [WordAddr; 6], config: i64) -> Result<Meter, Refusal>
+    ensures { answer_of result ≡ starting n b track config }
 {
     let slots = address::all_slots(track);
     let board = (0 <= config) & (config <= 255);
     if (1 <= n) & (n <= 4096) & (1 <= b) & (b <= 281474976710655) & slots & board {
-        let m = fresh(n as u32, b as u64, track, config as u8);
-        return Started { ok: true, meter: m };
+        return Ok(fresh(n as u32, b as u64, track, config as u8));
     }
-    let low = lowest();
-    Started {
-        ok: false,
-        meter: low,
-    }
+    Err(Refusal::StartRange)
 }

@@ -1,3 +1,2 @@
 -- The names of documents 01 and 02: a card's fields and the registers.
 pub mod Names
-pub mod Inside

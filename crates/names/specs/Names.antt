@@ -1,10 +1,9 @@
 -- Which number a name of documents 01 and 02 stands for: a field's name its number, a register's name its word address.
-use Rattle.std.specs.Prelude.{ℕ, cond, List, [], ◌∷◌, map}
+use Rattle.std.specs.Prelude.{ℕ, cond, Option, Some, None, List, [], ◌∷◌, map}
+use Rattle.std.specs.Borrow.{Bor}
 use Prim.Native.String.{String}
 use Rattle.serial.specs.Ascii.{ascii}
 use Rattle.serial.specs.Texts.{same_text}
-use Rattle.names.specs.declared.Named.{Named}
-use Rattle.names.specs.declared.Named.TheVariants.{Is, Not}
 
 -- "A probe's card"
 unfoldable pub fields : List (String × ℕ)
@@ -57,13 +56,17 @@ registers =
 unfoldable pub spelled : List (String × ℕ) → List (List ℕ × ℕ)
 spelled entries = map (λ (e : String × ℕ). (ascii e.0, e.1)) entries
 
--- the number of the first entry whose name is exactly this text
-unfoldable pub named_in : List (List ℕ × ℕ) → List ℕ → Named
-named_in [] text = Not
-named_in (e ∷ es) text = cond (same_text e.0 text) (Is e.1) (named_in es text)
+-- a table of the program with each name as its bytes
+abbrev pub entries_of : List (Bor (List ℕ) × ℕ) → List (List ℕ × ℕ)
+entries_of table = map (λ (e : Bor (List ℕ) × ℕ). (e.0.now, e.1)) table
 
-unfoldable pub field_named : List ℕ → Named
+-- the number of the first entry whose name is exactly this text
+unfoldable pub named_in : List (List ℕ × ℕ) → List ℕ → Option ℕ
+named_in [] text = None
+named_in (e ∷ es) text = cond (same_text e.0 text) (Some e.1) (named_in es text)
+
+unfoldable pub field_named : List ℕ → Option ℕ
 field_named text = named_in (spelled fields) text
 
-unfoldable pub register_named : List ℕ → Named
+unfoldable pub register_named : List ℕ → Option ℕ
 register_named text = named_in (spelled registers) text

@@ -1,102 +1,72 @@
 // The names of documents 01 and 02, and which number each stands for: a card's field its number, a register its word address.
 #![tactic(auto)]
 
-ghost use Rattle.std.specs.Prelude.{◌≡◌, true, ◌+◌, ◌*◌, ◌≤◌, length};
-ghost use Rattle.serial.specs.Texts.{same_text};
-ghost use Rattle.names.specs.Names.{named_in, field_named, register_named};
-ghost use Rattle.names.specs.Inside.{letters_at, row_at, rows_of, rows_ok};
+ghost use Rattle.std.specs.Prelude.{◌≡◌};
+ghost use Rattle.names.specs.Names.{entries_of, named_in, field_named, register_named};
 
-// What a name stands for.
-#[derive(Clone, Copy)]
-pub enum Named {
-    Is(u32),
-    Not,
-}
+const FIELDS: [(&str, u32); 8] = [
+    ("VOFFS", 1),
+    ("IOFFS", 2),
+    ("VGAIN", 3),
+    ("IGAIN", 4),
+    ("PHASE", 5),
+    ("IRMSOFFS", 6),
+    ("SQUELCH", 7),
+    ("POFFS", 8),
+];
 
-// A row of 16 bytes for each name: its number, how many letters it has, and the letters, with spaces behind them.
-const FIELDS: [u8; 128] = *b"\
-    \x01\x05VOFFS         \
-    \x02\x05IOFFS         \
-    \x03\x05VGAIN         \
-    \x04\x05IGAIN         \
-    \x05\x05PHASE         \
-    \x06\x08IRMSOFFS      \
-    \x07\x07SQUELCH       \
-    \x08\x05POFFS         \
-";
+const REGISTERS: [(&str, u32); 29] = [
+    ("VA_RMS", 0x2B),
+    ("IA_RMS", 0x3E),
+    ("IA_PEAK", 0x46),
+    ("WATT_A", 0x4B),
+    ("VA_A", 0x4E),
+    ("PFA", 0x65),
+    ("IA_CREST", 0x8B),
+    ("PA_POS_CNT", 0x8F),
+    ("PA_NEG_CNT", 0x92),
+    ("IB_RMS", 0x3F),
+    ("IB_PEAK", 0x47),
+    ("WATT_B", 0x4C),
+    ("VA_B", 0x4F),
+    ("PFB", 0x66),
+    ("IB_CREST", 0x8C),
+    ("PB_POS_CNT", 0x95),
+    ("PB_NEG_CNT", 0x98),
+    ("MIN1", 0x71),
+    ("MIN2", 0x72),
+    ("MIN3", 0x73),
+    ("MIN4", 0x74),
+    ("MIN5", 0x75),
+    ("MIN6", 0x76),
+    ("MAX1", 0x77),
+    ("MAX2", 0x78),
+    ("MAX3", 0x79),
+    ("MAX4", 0x7A),
+    ("MAX5", 0x7B),
+    ("MAX6", 0x7C),
+];
 
-const REGISTERS: [u8; 464] = *b"\
-    \x2B\x06VA_RMS        \
-    \x3E\x06IA_RMS        \
-    \x46\x07IA_PEAK       \
-    \x4B\x06WATT_A        \
-    \x4E\x04VA_A          \
-    \x65\x03PFA           \
-    \x8B\x08IA_CREST      \
-    \x8F\x0APA_POS_CNT    \
-    \x92\x0APA_NEG_CNT    \
-    \x3F\x06IB_RMS        \
-    \x47\x07IB_PEAK       \
-    \x4C\x06WATT_B        \
-    \x4F\x04VA_B          \
-    \x66\x03PFB           \
-    \x8C\x08IB_CREST      \
-    \x95\x0APB_POS_CNT    \
-    \x98\x0APB_NEG_CNT    \
-    \x71\x04MIN1          \
-    \x72\x04MIN2          \
-    \x73\x04MIN3          \
-    \x74\x04MIN4          \
-    \x75\x04MIN5          \
-    \x76\x04MIN6          \
-    \x77\x04MAX1          \
-    \x78\x04MAX2          \
-    \x79\x04MAX3          \
-    \x7A\x04MAX4          \
-    \x7B\x04MAX5          \
-    \x7C\x04MAX6          \
-";
-
-// Whether the name in row k is this text.
-fn is_name(rows: &[u8], k: usize, text: &[u8]) -> bool
-    requires { (16 * k + 16 ≤ length rows.now) × (letters_at rows.now k ≤ 14) }
-    ensures { result ≡ same_text (row_at rows.now k).0 text.now }
+// The number of the first entry whose name is this text.
+fn number_in(table: &[(&str, u32)], text: &[u8]) -> Option<u32>
+    ensures { result ≡ named_in (entries_of table.now) text.now }
 {
-    let letters = rows[16 * k + 1] as usize;
-    let from = 16 * k + 2;
-    let end = from + letters;
-    serial::same_text(&rows[from..end], text)
-}
-
-// The number of the first row whose name is this text.
-fn number_in(rows: &[u8], text: &[u8]) -> Named
-    requires { rows_ok rows.now ≡ true }
-    ensures { result ≡ named_in (rows_of rows.now) text.now }
-{
-    let n = rows.len() / 16;
-    let mut k: usize = 0;
-    while k < n {
-        if is_name(rows, k, text) {
-            let number = serial::byte_at(rows, 16 * k);
-            return Named::Is(number as u32);
-        }
-        k += 1;
-    }
-    Named::Not
+    let entry = table
+        .iter()
+        .find(|e| serial::same_text(e.0.as_bytes(), text))?;
+    Some(entry.1)
 }
 
 // The number of the field with this name.
-pub fn field(text: &[u8]) -> Named
+pub fn field(text: &[u8]) -> Option<u32>
     ensures { result ≡ field_named text.now }
 {
-    let rows = FIELDS;
-    number_in(&rows, text)
+    number_in(&FIELDS, text)
 }
 
 // The word address of the register with this name.
-pub fn register(text: &[u8]) -> Named
+pub fn register(text: &[u8]) -> Option<u32>
     ensures { result ≡ register_named text.now }
 {
-    let rows = REGISTERS;
-    number_in(&rows, text)
+    number_in(&REGISTERS, text)
 }

@@ -9,11 +9,7 @@ ghost use Rattle.number.specs.Rounding.{floor_div, toward_zero};
 pub fn size(x: i64) -> u64
     ensures { result ≡ nat_abs x }
 {
-    if x < 0 {
-        (-(x + 1)) as u64 + 1
-    } else {
-        x as u64
-    }
+    x.unsigned_abs()
 }
 
 // The number of size m with the sign of x.
@@ -32,14 +28,11 @@ fn with_sign(x: i64, m: u64) -> i64
 }
 
 // x with its size less m, or 0, and its sign kept.
+#[tactic(auto, unfolding(crate::specs::Sign::lessened))]
 pub fn lessen(x: i64, m: u64) -> i64
     ensures { result ≡ lessened x m }
 {
-    let s = size(x);
-    if m < s {
-        return with_sign(x, s - m);
-    }
-    0
+    with_sign(x, size(x).saturating_sub(m))
 }
 
 // x / m, rounded toward zero; 0 where m is 0.

@@ -8,7 +8,7 @@ ghost use Rattle.packet.specs.Commands.{parameters, selects, target_of, selectin
 use serial::byte_at;
 
 // How a packet, or the row of its commands, ends: it is whole; it fails, with the code that is the reply; or it has no reply.
-#[derive(Clone, Copy)]
+#[derive(Clone, Copy, Debug, PartialEq, Eq)]
 pub enum Ending {
     Whole,
     Fails(u8),
@@ -16,7 +16,7 @@ pub enum Ending {
 }
 
 // What a command finds: whether this device is selected, and the address pointer.
-#[derive(Clone, Copy)]
+#[derive(Clone, Copy, Debug, PartialEq, Eq)]
 pub struct Device {
     pub selected: bool,
     pub pointer: u16,
@@ -24,30 +24,22 @@ pub struct Device {
 
 // What a command comes to: what the next one finds; so many registers read from the pointer on, and what the next one finds; or that it stops the
 // packet.
-#[derive(Clone, Copy)]
+#[derive(Clone, Copy, Debug, PartialEq, Eq)]
 pub enum Command {
     Goes(Device),
     Reads(u8, Device),
     Stops(Ending),
 }
 
-fn wide(x: u8) -> u32
-    ensures { (result ≡ x) × (result ≤ 255) }
-{
-    x as u32
-}
-
 // The sum of all bytes, modulo 256.
 pub fn sum_of(bytes: &[u8]) -> u8
     ensures { result ≡ checksum bytes.now }
 {
-    let mut sum: u32 = 0;
-    let mut k = 0;
-    while k < bytes.len() {
-        sum = (sum + wide(bytes[k])) % 256;
-        k += 1;
+    let mut sum: u8 = 0;
+    for b in bytes {
+        sum = sum.wrapping_add(*b);
     }
-    sum as u8
+    sum
 }
 
 // What is no packet: too short, another header, a count below 3, or fewer bytes than the count says.
@@ -57,7 +49,7 @@ fn no_packet(p: &[u8]) -> bool
     let n = p.len();
     let header = byte_at(p, 0);
     let count = byte_at(p, 1) as usize;
-    (n < 2) | !(header == 0xAA) | (count < 3) | (n < count)
+    (n < 2) | (header != 0xAA) | (count < 3) | (n < count)
 }
 
 // Whether the last byte is the sum of all before it.
@@ -91,101 +83,96 @@ pub fn judge(p: &[u8]) -> Ending
 }
 
 // How many bytes behind a command are its own.
+#[tactic(auto, unfolding(crate::specs::Commands::parameters))]
 pub fn parameters(c: u8) -> usize
     ensures { result ≡ parameters c }
 {
-    if c == 0xA3 {
-        return 2;
-    }
-    if (c == 0xA1) | (c == 0xA2) | (c == 0xCF) | (c == 0xE0) {
-        1
-    } else {
-        0
+    match c {
+        0xA3 => 2,
+        0xA1 | 0xA2 | 0xCF | 0xE0 => 1,
+        _ => 0,
     }
 }
 
+#[tactic(auto, unfolding(crate::specs::Commands::selects))]
 fn selects(c: u8, behind: &[u8]) -> bool
     ensures { result ≡ selects c behind.now }
 {
-    (0xC0 <= c) & (c <= 0xCE) | (c == 0xCF) & (0 < behind.len())
+    matches!(c, 0xC0..=0xCE) | (c == 0xCF) & !behind.is_empty()
 }
 
 // The target that a command selects.
+#[tactic(auto, unfolding(crate::specs::Commands::target_of))]
 fn target_of(c: u8, behind: &[u8]) -> u8
     ensures { result ≡ target_of c behind.now }
 {
     if c == 0xCF {
-        return byte_at(behind, 0);
+        byte_at(behind, 0)
+    } else {
+        c.saturating_sub(0xC0)
     }
-    if c < 0xC0 { 0 } else { c - 0xC0 }
 }
 
 // This device is 1; with another's number the packet is another device's.
+#[tactic(auto, unfolding(crate::specs::Commands::selecting))]
 fn select(d: Device, target: u8) -> Command
     ensures { result ≡ selecting d target }
 {
-    if target == 1 {
-        return Command::Goes(Device {
+    match target {
+        1 => Command::Goes(Device {
             selected: true,
-            pointer: d.pointer,
-        });
-    }
-    if target == 0 {
-        return Command::Goes(Device {
+            ..d
+        }),
+        0 => Command::Goes(Device {
             selected: false,
-            pointer: d.pointer,
-        });
+            ..d
+        }),
+        _ => Command::Stops(Ending::Unanswered),
     }
-    Command::Stops(Ending::Unanswered)
 }
 
+#[tactic(auto, unfolding(crate::specs::Commands::not_used))]
 fn not_used(c: u8) -> bool
     ensures { result ≡ not_used c }
 {
-    (c < 0xA0) | (0xA4 <= c) & (c <= 0xBF) | (0xF0 <= c)
+    matches!(c, ..0xA0 | 0xA4..=0xBF | 0xF0..)
 }
 
 // The pointer that one of A0 to A3 sets.
+#[tactic(auto, unfolding(crate::specs::Commands::pointed))]
 fn point(c: u8, pointer: u16, behind: &[u8]) -> u16
     ensures { result ≡ pointed c pointer behind.now }
 {
     let low = byte_at(behind, 0) as u16;
     let high = byte_at(behind, 1) as u16;
-    if c == 0xA0 {
-        return 0;
+    match c {
+        0xA0 => 0,
+        0xA1 => pointer / 256 * 256 + low,
+        0xA2 => low * 256 + pointer % 256,
+        _ => high * 256 + low,
     }
-    if c == 0xA1 {
-        return pointer / 256 * 256 + low;
-    }
-    if c == 0xA2 {
-        return low * 256 + pointer % 256;
-    }
-    high * 256 + low
 }
 
 // How many bytes one of E0 to EF reads.
+#[tactic(auto, unfolding(crate::specs::Commands::bytes_read))]
 fn bytes_read(c: u8, behind: &[u8]) -> u8
     ensures { result ≡ bytes_read c behind.now }
 {
     if c == 0xE0 {
-        return byte_at(behind, 0);
+        byte_at(behind, 0)
+    } else {
+        c.saturating_sub(0xE0)
     }
-    if c < 0xE0 { 0 } else { c - 0xE0 }
 }
 
 // Whole registers alone.
+#[tactic(auto, unfolding(crate::specs::Commands::reading))]
 fn read(d: Device, n: u8) -> Command
     ensures { result ≡ reading d n }
 {
     if n % 3 == 0 {
-        let moved = (d.pointer as u32 + wide(n)) % 65536;
-        return Command::Reads(
-            n / 3,
-            Device {
-                selected: d.selected,
-                pointer: moved as u16,
-            },
-        );
+        let pointer = d.pointer.wrapping_add(n as u16);
+        return Command::Reads(n / 3, Device { pointer, ..d });
     }
     Command::Stops(Ending::Fails(0xB0))
 }
@@ -202,10 +189,7 @@ fn while_selected(d: Device, c: u8, behind: &[u8]) -> Command
     }
     if (0xA0 <= c) & (c <= 0xA3) {
         let pointer = point(c, d.pointer, behind);
-        return Command::Goes(Device {
-            selected: d.selected,
-            pointer,
-        });
+        return Command::Goes(Device { pointer, ..d });
     }
     if (0xD0 <= c) & (c <= 0xDF) {
         return Command::Stops(Ending::Fails(0xB0));
@@ -214,6 +198,7 @@ fn while_selected(d: Device, c: u8, behind: &[u8]) -> Command
 }
 
 // What the command c, with these bytes behind it, comes to.
+#[tactic(auto, unfolding(crate::specs::Commands::command_of))]
 pub fn obey(d: Device, c: u8, behind: &[u8]) -> Command
     ensures { result ≡ command_of d c behind.now }
 {

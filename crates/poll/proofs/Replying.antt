@@ -1,7 +1,7 @@
 -- What is gathered register by register gives the reply of the definition, which speaks of all registers at once.
 use Prim.Native.Nat.{ℕ, suc, ◌+◌, ◌*◌, ◌≤◌, ◌<◌}
 use mathlib.Core.Path.{◌≡◌, refl, sym, ap, subst, ◌∙◌}
-use mathlib.Core.Bool.{Bool, true, false, cond, true≢false}
+use mathlib.Core.Bool.{Bool, true, false, cond}
 use mathlib.Core.List.{List, [], ◌∷◌, ◌++◌, append_assoc, append-nil}
 use native.Mathlib.Nat.{not-le_of_lt}
 use native.Mathlib.Numerals.{add-one}
@@ -11,14 +11,14 @@ use lib.Dec.{eqb, ltb}
 use lib.IntN.{ℤ}
 use lib.ListN.{length, take, set, length-append, length-set}
 use lib.Seq.{take-suc-set}
+use Rattle.std.specs.Prelude.{Result, Ok, Err}
 use Rattle.steps.specs.Answers.{OrRefusal, refused, accepted, and_then}
 use Rattle.packet.specs.declared.Ending.{Ending}
 use Rattle.packet.specs.declared.Ending.TheVariants.{Whole, Fails, Unanswered}
-use Rattle.packet.specs.Codes.{acknowledge}
+use Rattle.packet.specs.Codes.{acknowledge, negative}
 use Rattle.packet.specs.Commands.{Asked}
-use Rattle.packet.specs.Replies.{code, values, joined, read_all, sending, replied}
+use Rattle.packet.specs.Replies.{Reply, code, values, joined, read_all, sending, replied}
 use Rattle.poll.specs.declared.Gathered.{Gathered}
-use Rattle.poll.specs.declared.Taken.{Taken}
 use Rattle.poll.specs.Inside.{none_gathered, keeping, taken_if, read_into, ended_by, gathers, sending_of, gathered_reply}
 
 -- g has these values, or there are too many of them for a reply
@@ -77,16 +77,16 @@ has_more g vs v h = go (ltb (length vs) 84) refl
 
 -- ---- all registers, and register by register
 
--- the values vs are there before; q is what the registers to come give, t what is gathered of them
-abbrev Agrees : List ℤ → OrRefusal (List ℤ) → Taken → Type 0
-Agrees vs (refused n) t = t.ok ≡ false
-Agrees vs (accepted ws) t = (t.ok ≡ true) × Has t.gathered (vs ++ ws)
+-- the values vs are there before; q is what the registers to come give, r what is gathered of them
+abbrev Agrees : List ℤ → OrRefusal (List ℤ) → Result Gathered Ending → Type 0
+Agrees vs (refused n) r = r ≡ Err (Fails negative)
+Agrees vs (accepted ws) r = (g : Gathered) × (r ≡ Ok g) × Has g (vs ++ ws)
 
-agrees_behind : (vs : List ℤ) (v : ℤ) (q : OrRefusal (List ℤ)) (t : Taken) → Agrees (vs ++ (v ∷ [])) q t → Agrees vs (and_then q (λ ws. v ∷ ws)) t
-agrees_behind vs v (refused n) t h = h
-agrees_behind vs v (accepted ws) t h = (h.0, subst (Has t.gathered) (append_assoc vs (v ∷ []) ws) h.1)
+agrees_behind : (vs : List ℤ) (v : ℤ) (q : OrRefusal (List ℤ)) (r : Result Gathered Ending) → Agrees (vs ++ (v ∷ [])) q r → Agrees vs (and_then q (λ ws. v ∷ ws)) r
+agrees_behind vs v (refused n) r h = h
+agrees_behind vs v (accepted ws) r h = (h.0, h.1, subst (Has h.0) (append_assoc vs (v ∷ []) ws) h.2)
 
-agrees_cons : (vs : List ℤ) (g : Gathered) (q : OrRefusal ℤ) (rest : OrRefusal (List ℤ)) (f : Gathered → Taken) → Has g vs →
+agrees_cons : (vs : List ℤ) (g : Gathered) (q : OrRefusal ℤ) (rest : OrRefusal (List ℤ)) (f : Gathered → Result Gathered Ending) → Has g vs →
     ((v : ℤ) → Has (keeping g v) (vs ++ (v ∷ [])) → Agrees (vs ++ (v ∷ [])) rest (f (keeping g v))) → Agrees vs (joined q rest) (taken_if q g f)
 agrees_cons vs g (refused n) rest f h k = refl
 agrees_cons vs g (accepted v) rest f h k = agrees_behind vs v rest (f (keeping g v)) (k v (has_more g vs v h))
@@ -94,7 +94,7 @@ agrees_cons vs g (accepted v) rest f h k = agrees_behind vs v rest (f (keeping g
 module _ (look : ℕ → OrRefusal ℤ) where
   agrees : (r : List ℕ) (vs : List ℤ) (g : Gathered) → Has g vs → Agrees vs (read_all look r) (read_into look r g)
   unfolding read_into
-  agrees [] vs g h = (refl, subst (Has g) (sym (append-nil vs)) h)
+  agrees [] vs g h = (g, refl, subst (Has g) (sym (append-nil vs)) h)
   agrees (a ∷ r) vs g h = agrees_cons vs g (look a) (read_all look r) (read_into look r) h (λ v h'. agrees r (vs ++ (v ∷ [])) (keeping g v) h')
 
 -- ---- the reply
@@ -124,16 +124,19 @@ sending_is g vs h = go (ltb 84 (length vs)) refl
     go true t = sending_many g vs h (ltb-true _ _ t)
     go false t = sending_few g vs h (ltb-false _ _ t)
 
-replied_by : (ok : Bool) (g : Gathered) (q : OrRefusal (List ℤ)) (e : Ending) → let t : Taken = record { ok = ok; gathered = g } in Agrees [] q t → replied q e ≡ gathered_reply (ended_by t e)
-replied_by true g (refused n) e h = absurd (true≢false h)
-replied_by false g (refused n) e h = refl
-replied_by true g (accepted ws) Whole h = sending_is g ws h.1
-replied_by true g (accepted ws) (Fails c) h = refl
-replied_by true g (accepted ws) Unanswered h = refl
-replied_by false g (accepted ws) e h = absurd (true≢false (sym h.0))
+module _ (e : Ending) where
+  abbrev reply_of : Result Gathered Ending → Reply
+  reply_of r = gathered_reply (ended_by r e)
+
+  replied_by : (q : OrRefusal (List ℤ)) (r : Result Gathered Ending) → Agrees [] q r → replied q e ≡ reply_of r
+  replied_by (refused n) r h = ap reply_of (sym h)
+  replied_by (accepted ws) r h = ended e ∙ ap reply_of (sym h.1)
+    where
+      ended : (x : Ending) → replied (accepted ws) x ≡ gathered_reply (ended_by (Ok h.0) x)
+      ended Whole = sending_is h.0 ws h.2
+      ended (Fails c) = refl
+      ended Unanswered = refl
 
 pub replied_is : (look : ℕ → OrRefusal ℤ) (a : Asked) → replied (read_all look a.registers) a.ending ≡ gathered_reply (gathers look none_gathered a)
 unfolding gathers
-replied_is look a =
-    let t = read_into look a.registers none_gathered in
-    replied_by t.ok t.gathered (read_all look a.registers) a.ending (agrees look a.registers [] none_gathered has_none)
+replied_is look a = replied_by a.ending (read_all look a.registers) (read_into look a.registers none_gathered) (agrees look a.registers [] none_gathered has_none)

@@ -8,6 +8,7 @@ use borrow.Author.Tests.{lt-ltb, le-ltb, le-leb, lt-leb, eq-eqb, ne_eqb}
 use lib.IntN.{ℤ}
 use lib.ListN.{length, take, length-append}
 use lib.Seq.{length-take-le}
+use Rattle.std.specs.Prelude.{Option, Some, None}
 use Rattle.serial.specs.Places.{put, put_within}
 use Rattle.serial.proofs.Places.{put_fits}
 use Rattle.card.specs.Cards.{fields_bytes}
@@ -44,7 +45,7 @@ values_long vs =
 
 -- ---- whether it fits
 module _ (r : Reply) (b : List ℕ) where
-  pub too_short : length b < length (reply_bytes r) → ◌≡◌ {A = Replied} (record { fits = false; length = 0; sends = false }) (replied_in (length b) r)
+  pub too_short : length b < length (reply_bytes r) → ◌≡◌ {A = Option Replied} None (replied_in (length b) r)
   unfolding replied_in
   too_short l = simp (lt-leb (length (reply_bytes r)) (length b) l)
 
@@ -52,7 +53,7 @@ module _ (r : Reply) (b : List ℕ) where
   unfolding put_within
   stays l = simp (lt-leb (0 + length (reply_bytes r)) (length b) (omega arith))
 
-  pub has_room : length (reply_bytes r) ≤ length b → ◌≡◌ {A = Replied} (record { fits = true; length = length (reply_bytes r); sends = sends r }) (replied_in (length b) r)
+  pub has_room : length (reply_bytes r) ≤ length b → ◌≡◌ {A = Option Replied} (Some (record { length = length (reply_bytes r); sends = sends r })) (replied_in (length b) r)
   unfolding replied_in
   has_room l = simp (le-leb (length (reply_bytes r)) (length b) l)
 
@@ -60,7 +61,7 @@ module _ (r : Reply) (b : List ℕ) where
   is_put l = sym (put_fits b (reply_bytes r) 0 (omega arith))
 
 -- no reply: nothing is written
-pub none_replied : (b : List ℕ) → ◌≡◌ {A = Replied} (record { fits = true; length = 0; sends = false }) (replied_in (length b) no_reply)
+pub none_replied : (b : List ℕ) → ◌≡◌ {A = Option Replied} (Some (record { length = 0; sends = false })) (replied_in (length b) no_reply)
 unfolding reply_bytes
 none_replied b = has_room no_reply b (omega arith)
 
@@ -69,7 +70,7 @@ unfolding reply_bytes put
 none_put b = is_put no_reply b (omega arith)
 
 -- what is said of a reply, of the same reply
-pub of_reply : (b c : List ℕ) (x : Replied) {q r : Reply} → q ≡ r → (x ≡ replied_in (length b) q) × (c ≡ put_within b 0 (reply_bytes q)) → (x ≡ replied_in (length b) r) × (c ≡ put_within b 0 (reply_bytes r))
+pub of_reply : (b c : List ℕ) (x : Option Replied) {q r : Reply} → q ≡ r → (x ≡ replied_in (length b) q) × (c ≡ put_within b 0 (reply_bytes q)) → (x ≡ replied_in (length b) r) × (c ≡ put_within b 0 (reply_bytes r))
 of_reply b c x e h = subst (λ (r : Reply). (x ≡ replied_in (length b) r) × (c ≡ put_within b 0 (reply_bytes r))) e h
 
 -- the registers, put where there is room
@@ -84,16 +85,16 @@ module _ (g : Gathered) (b c : List ℕ) (few : g.count ≤ 84) (some : g.count 
   reply_long = values_long taken ∙ ap (λ (n : ℕ). 3 * n + 3) taken_long
 
   pub sent : 3 * g.count + 3 ≤ length b → c ≡ put b 0 (values_reply taken) →
-      ◌≡◌ {A = Replied} (record { fits = true; length = 3 * g.count + 3; sends = true }) (replied_in (length b) (sending_of g)) × (c ≡ put_within b 0 (reply_bytes (sending_of g)))
+      ◌≡◌ {A = Option Replied} (Some (record { length = 3 * g.count + 3; sends = true })) (replied_in (length b) (sending_of g)) × (c ≡ put_within b 0 (reply_bytes (sending_of g)))
   unfolding reply_bytes
   sent l e =
-      of_reply b c (record { fits = true; length = 3 * g.count + 3; sends = true }) (sym (some_registers g few some)) (
-        ap (λ (n : ℕ). record { fits = true; length = n; sends = true }) (sym reply_long) ∙ has_room (values taken) b (omega (arith, reply_long)),
+      of_reply b c (Some (record { length = 3 * g.count + 3; sends = true })) (sym (some_registers g few some)) (
+        ap (λ (n : ℕ). Some (record { length = n; sends = true })) (sym reply_long) ∙ has_room (values taken) b (omega (arith, reply_long)),
         e ∙ is_put (values taken) b (omega (arith, reply_long)),
       )
 
   pub not_sent : length b < 3 * g.count + 3 →
-      ◌≡◌ {A = Replied} (record { fits = false; length = 0; sends = false }) (replied_in (length b) (sending_of g)) × (b ≡ put_within b 0 (reply_bytes (sending_of g)))
+      ◌≡◌ {A = Option Replied} None (replied_in (length b) (sending_of g)) × (b ≡ put_within b 0 (reply_bytes (sending_of g)))
   not_sent l =
-      of_reply b b (record { fits = false; length = 0; sends = false }) (sym (some_registers g few some))
+      of_reply b b None (sym (some_registers g few some))
       (too_short (values taken) b (omega (arith, reply_long)), stays (values taken) b (omega (arith, reply_long)))

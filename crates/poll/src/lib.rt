@@ -4,51 +4,34 @@
 ghost use Rattle.std.specs.Prelude.{◌≡◌, ◌+◌, ◌*◌, ◌≤◌, length};
 ghost use Rattle.serial.specs.Places.{put, put_within};
 ghost use Rattle.card.specs.Cards.{fields_bytes};
-ghost use Rattle.packet.specs.Commands.{registers_from, command_of, asked_from, at_first};
+ghost use Rattle.packet.specs.Commands.{registers_from, command_of, asked_from, asked_by, at_first};
 ghost use Rattle.packet.specs.Replies.{code, values_reply, reply_bytes};
 ghost use Rattle.poll.specs.Polls.{read_at, reply_from, replied_in};
-ghost use Rattle.poll.specs.Inside.{none_gathered, keeping, read_into, after_read, walked, gathers, sending_of, gathered_reply};
+ghost use Rattle.poll.specs.Inside.{none_gathered, keeping, read_into, walked, gathers, sending_of, ending_reply};
 
 use address::ByteAddr;
 use packet::{Command, Device, Ending};
-use port::{Held, Reading};
+use port::Held;
 
-// Whether the reply fits, how long it is, and whether it sends registers; 0 and no where it does not fit.
+// A reply that fits: how long it is, and whether it sends registers.
 #[derive(Clone, Copy)]
 pub struct Replied {
-    pub fits: bool,
     pub length: usize,
     pub sends: bool,
 }
 
-// The registers read so far. A reply has room for 84 of them; 85 stands for any more.
+// The registers read so far. A reply has room for 84 of them; the count stops at 85.
 #[derive(Clone, Copy)]
-pub struct Gathered {
-    pub count: usize,
-    pub values: [i64; 84],
+struct Gathered {
+    count: usize,
+    values: [i64; 84],
 }
 
-// The same behind a read; ok: none of its registers was refused.
+// What a command leaves for the next.
 #[derive(Clone, Copy)]
-pub struct Taken {
-    pub ok: bool,
-    pub gathered: Gathered,
-}
-
-// Behind a command; over: it stopped the packet.
-#[derive(Clone, Copy)]
-pub struct Walked {
-    pub over: bool,
-    pub ending: Ending,
-    pub device: Device,
-    pub gathered: Gathered,
-}
-
-// Behind the last command, or the one that stopped the packet.
-#[derive(Clone, Copy)]
-pub struct Gathering {
-    pub ending: Ending,
-    pub gathered: Gathered,
+struct Walked {
+    device: Device,
+    gathered: Gathered,
 }
 
 fn keep(mut g: Gathered, v: i64) -> Gathered
@@ -64,78 +47,40 @@ fn keep(mut g: Gathered, v: i64) -> Gathered
     g
 }
 
-// Reads n registers from a byte address on.
-fn read_on(h: Held, g: Gathered, pointer: u16, n: u8) -> Taken
+// Reads n registers from a byte address on. A refused one ends the packet: a negative acknowledge.
+fn read_on(h: Held, g: Gathered, pointer: u16, n: u8) -> Result<Gathered, Ending>
     ensures { result ≡ read_into (read_at h) (registers_from pointer n) g }
 {
     let mut got = g;
-    let mut at = pointer as u64;
-    let mut left = n;
-    while 0 < left {
-        match h.look(ByteAddr(at)) {
-            Reading::Value(v) => {
-                got = keep(got, v);
-                at += 3;
-                left -= 1;
-            }
-            Reading::Refused(_) => {
-                return Taken {
-                    ok: false,
-                    gathered: got,
-                };
-            }
-        }
-    }
-    Taken {
-        ok: true,
-        gathered: got,
-    }
-}
-
-// A refused register is a negative acknowledge.
-fn after_read(t: Taken, next: Device) -> Walked
-    ensures { result ≡ after_read t next }
-{
-    let gathered = t.gathered;
-    if t.ok {
-        return Walked {
-            over: false,
-            ending: Ending::Whole,
-            device: next,
-            gathered,
+    for k in 0..n {
+        let at = pointer as u64 + 3 * k as u64;
+        let Ok(v) = h.look(ByteAddr(at)) else {
+            return Err(Ending::Fails(0xB0));
         };
+        got = keep(got, v);
     }
-    Walked {
-        over: true,
-        ending: Ending::Fails(0xB0),
-        device: next,
-        gathered,
-    }
+    Ok(got)
 }
 
-// One command.
-fn walk(h: Held, d: Device, g: Gathered, c: u8, behind: &[u8]) -> Walked
+// One command; or the ending, where it stops the packet.
+fn walk(h: Held, d: Device, g: Gathered, c: u8, behind: &[u8]) -> Result<Walked, Ending>
     ensures { result ≡ walked (read_at h) d g (command_of d c behind.now) }
 {
     match packet::obey(d, c, behind) {
-        Command::Goes(next) => Walked {
-            over: false,
-            ending: Ending::Whole,
-            device: next,
+        Command::Goes(device) => Ok(Walked {
+            device,
             gathered: g,
-        },
-        Command::Reads(n, next) => after_read(read_on(h, g, d.pointer, n), next),
-        Command::Stops(e) => Walked {
-            over: true,
-            ending: e,
-            device: d,
-            gathered: g,
-        },
+        }),
+        Command::Reads(n, device) => {
+            let gathered = read_on(h, g, d.pointer, n)?;
+            Ok(Walked { device, gathered })
+        }
+        Command::Stops(e) => Err(e),
     }
 }
 
-// The commands of a packet, one after another.
-fn gather(h: Held, commands: &[u8]) -> Gathering
+// The commands of a packet, one after another, up to one that stops it.
+fn gather(h: Held, commands: &[u8]) -> Result<Gathered, Ending>
     ensures { result ≡ gathers (read_at h) none_gathered (asked_from commands.now 0 at_first) }
 {
     let mut d = Device {
@@ -150,34 +95,26 @@ fn gather(h: Held, commands: &[u8]) -> Gathering
     while at < commands.len() {
         let c = commands[at];
         let next = at + 1;
-        let w = walk(h, d, g, c, &commands[next..]);
-        let gathered = w.gathered;
-        if w.over {
-            let ending = w.ending;
-            return Gathering { ending, gathered };
-        }
+        let w = walk(h, d, g, c, &commands[next..])?;
         d = w.device;
-        g = gathered;
+        g = w.gathered;
         at = next + packet::parameters(c);
     }
-    Gathering {
-        ending: Ending::Whole,
-        gathered: g,
-    }
+    Ok(g)
 }
 
 // A reply of one byte.
-fn send_code(c: u8, out: &mut [u8]) -> Replied
+fn send_code(c: u8, out: &mut [u8]) -> Option<Replied>
     ensures { (result ≡ replied_in (length out.old) (code c)) × (out.new ≡ put_within out.old 0 (reply_bytes (code c))) }
 {
-    let one = [c];
-    let fits = 1 <= out.len();
-    serial::put_at(out, 0, &one);
-    Replied {
-        fits,
-        length: if fits { 1 } else { 0 },
-        sends: false,
+    if out.len() < 1 {
+        return None;
     }
+    serial::put_at(out, 0, &[c]);
+    Some(Replied {
+        length: 1,
+        sends: false,
+    })
 }
 
 // Registers behind the code and the count.
@@ -185,11 +122,9 @@ fn put_registers(values: &[i64], out: &mut [u8])
     requires { (length values.now ≤ 84) × (2 + 3 * length values.now ≤ length out.old) }
     ensures { out.new ≡ put out.old 2 (fields_bytes values.now) }
 {
-    let mut k = 0;
-    while k < values.len() {
+    for k in 0..values.len() {
         let three = cardbytes::field_bytes(values[k]);
         serial::put_at(out, 2 + 3 * k, &three);
-        k += 1;
     }
 }
 
@@ -208,7 +143,7 @@ fn put_values(values: &[i64], out: &mut [u8])
 }
 
 // The registers behind the last command: none, some, or too many for a reply.
-fn send_values(g: Gathered, out: &mut [u8]) -> Replied
+fn send_values(g: Gathered, out: &mut [u8]) -> Option<Replied>
     ensures { (result ≡ replied_in (length out.old) (sending_of g))
         × (out.new ≡ put_within out.old 0 (reply_bytes (sending_of g))) }
 {
@@ -222,53 +157,49 @@ fn send_values(g: Gathered, out: &mut [u8]) -> Replied
     }
     let length = 3 * n + 3;
     if out.len() < length {
-        return Replied {
-            fits: false,
-            length: 0,
-            sends: false,
-        };
+        return None;
     }
     put_values(&values[..n], out);
-    Replied {
-        fits: true,
+    Some(Replied {
         length,
         sends: true,
-    }
+    })
 }
 
-fn send(g: Gathering, out: &mut [u8]) -> Replied
-    ensures { (result ≡ replied_in (length out.old) (gathered_reply g))
-        × (out.new ≡ put_within out.old 0 (reply_bytes (gathered_reply g))) }
-{
-    let gathered = g.gathered;
-    let ending = g.ending;
-    match ending {
-        Ending::Whole => send_values(gathered, out),
-        Ending::Fails(c) => send_code(c, out),
-        Ending::Unanswered => Replied {
-            fits: true,
-            length: 0,
-            sends: false,
-        },
-    }
-}
-
-// Answers a packet from a hold: the reply is put at the front of the buffer, where it fits.
-pub fn answer(h: Held, packet: &[u8], out: &mut [u8]) -> Replied
-    ensures { (result ≡ replied_in (length out.old) (reply_from h packet.now))
-        × (out.new ≡ put_within out.old 0 (reply_bytes (reply_from h packet.now))) }
+// All that a packet asks for, or how it ends.
+fn asked(h: Held, packet: &[u8]) -> Result<Gathered, Ending>
+    ensures { result ≡ gathers (read_at h) none_gathered (asked_by packet.now) }
 {
     match packet::judge(packet) {
         Ending::Whole => {
             let end = packet.len() - 1;
-            let g = gather(h, &packet[2..end]);
-            send(g, out)
+            gather(h, &packet[2..end])
         }
+        ending => Err(ending),
+    }
+}
+
+// The reply to how a packet ends: a code, or none.
+fn send_ending(e: Ending, out: &mut [u8]) -> Option<Replied>
+    ensures { (result ≡ replied_in (length out.old) (ending_reply e))
+        × (out.new ≡ put_within out.old 0 (reply_bytes (ending_reply e))) }
+{
+    match e {
         Ending::Fails(c) => send_code(c, out),
-        Ending::Unanswered => Replied {
-            fits: true,
+        _ => Some(Replied {
             length: 0,
             sends: false,
-        },
+        }),
+    }
+}
+
+// Answers a packet from a hold: the reply is put at the front of the buffer, where it fits.
+pub fn answer(h: Held, packet: &[u8], out: &mut [u8]) -> Option<Replied>
+    ensures { (result ≡ replied_in (length out.old) (reply_from h packet.now))
+        × (out.new ≡ put_within out.old 0 (reply_bytes (reply_from h packet.now))) }
+{
+    match asked(h, packet) {
+        Ok(gathered) => send_values(gathered, out),
+        Err(ending) => send_ending(ending, out),
     }
 }

@@ -2,14 +2,14 @@
 #![tactic(auto)]
 
 ghost use Rattle.std.specs.Prelude.{◌≡◌, ◌<◌, pos, get_or};
+ghost use Rattle.steps.specs.Answers.{answer_of};
 ghost use Rattle.address.specs.Addresses.{rows};
 ghost use Rattle.port.specs.Holds.{nothing_held, copied};
 ghost use Rattle.port.specs.Reading.{shown_of, registers, slot_off, look};
-ghost use Rattle.port.specs.Answers.{copying, looked};
 
-use address::{ByteAddr, ROWS, WordAddr};
+use address::{ByteAddr, WordAddr};
 use interval::{Closed, Registers, Source};
-use steps::Answer;
+use refusal::Refusal;
 
 // An interval as it was closed last when the port held, with the words that its slots track. any: whether anything is held; where not, all is
 // blank.
@@ -18,20 +18,6 @@ pub struct Held {
     pub any: bool,
     pub closed: Closed,
     pub track: [WordAddr; 6],
-}
-
-// What a hold copies; nothing, if it is refused.
-#[derive(Clone, Copy)]
-pub struct Copied {
-    pub answer: Answer,
-    pub held: Held,
-}
-
-// What a read answers: the value of a register, or the number that says no.
-#[derive(Clone, Copy)]
-pub enum Reading {
-    Value(i64),
-    Refused(u8),
 }
 
 // Where IB_RMS, MIN1 and MAX1 stand in the table.
@@ -102,50 +88,38 @@ impl Held {
     pub fn nothing() -> Held
         ensures { result ≡ nothing_held }
     {
-        let closed = Closed::none();
         Held {
             any: false,
-            closed,
+            closed: Closed::none(),
             track: [WordAddr(0); 6],
         }
     }
 
     // Hold: 14. All registers as they stood at the last close, and what the slots track; `any`: whether an interval has closed.
-    pub fn copy(any: bool, last: Closed, track: [WordAddr; 6]) -> Copied
-        ensures { result ≡ copying (copied any last track) }
+    pub fn copy(any: bool, last: Closed, track: [WordAddr; 6]) -> Result<Held, Refusal>
+        ensures { answer_of result ≡ copied any last track }
     {
         if any {
-            return Copied {
-                answer: Answer::Done,
-                held: Held {
-                    any: true,
-                    closed: last,
-                    track,
-                },
-            };
+            return Ok(Held {
+                any: true,
+                closed: last,
+                track,
+            });
         }
-        let nothing = Held::nothing();
-        Copied {
-            answer: Answer::Refused(14),
-            held: nothing,
-        }
+        Err(Refusal::NoInterval)
     }
 
     // Read byte address: 15, 16, 17.
-    pub fn look(self, address: ByteAddr) -> Reading
-        ensures { result ≡ looked (look self address) }
+    pub fn look(self, address: ByteAddr) -> Result<i64, Refusal>
+        ensures { answer_of result ≡ look self address }
     {
-        if self.any {
-            let k = address::register_of(address);
-            if k < ROWS {
-                let track = self.track;
-                if slot_off(track, k) {
-                    return Reading::Refused(17);
-                }
-                return Reading::Value(register(self.closed.regs, k));
-            }
-            return Reading::Refused(16);
+        if !self.any {
+            return Err(Refusal::NothingHeld);
         }
-        Reading::Refused(15)
+        let k = address::register_of(address).ok_or(Refusal::NoRegister)?;
+        if slot_off(self.track, k) {
+            return Err(Refusal::SlotOff);
+        }
+        Ok(register(self.closed.regs, k))
     }
 }

@@ -8,14 +8,14 @@ ghost use Rattle.range.specs.Range.{in24, held_within, clipped, capped};
 pub fn in_range(x: i32) -> bool
     ensures { result ≡ in24 x }
 {
-    (-8388608 <= x) & (x <= 8388607)
+    holds(i64::from(x))
 }
 
 // Whether the 24-bit range holds x, so that clipping leaves it as it is.
 pub fn holds(x: i64) -> bool
     ensures { result ≡ in24 x }
 {
-    (x >= -8388608) & (8388607 >= x)
+    (-8388608 <= x) & (x <= 8388607)
 }
 
 // x held within lo and hi.
@@ -42,5 +42,5 @@ pub fn clip(x: i64) -> i32
 pub fn cap(x: u64) -> u32
     ensures { result ≡ capped x }
 {
-    if x < 8388607 { x as u32 } else { 8388607 }
+    x.min(8388607) as u32
 }

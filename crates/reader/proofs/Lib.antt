@@ -1,4 +1,5 @@
 -- The walk through a book, and what its contracts decide.
 pub mod Steps
+pub mod Ahead
 pub mod Promise
 pub mod Decided

@@ -4,27 +4,27 @@ use mathlib.Core.Path.{◌≡◌, refl, sym, ap, ◌∙◌}
 use mathlib.Core.Bool.{Bool, true, false, cond}
 use mathlib.Core.List.{List}
 use native.Mathlib.Omega.{arith}
-use lib.Dec.{eqb, leb, ltb}
+use lib.Dec.{leb}
 use lib.ListN.{length}
 use borrow.Author.Tests.{lt-ltb, le-ltb, le-leb, eq-eqb, ne_eqb}
 use Rattle.section.specs.Sections.{place_of, end_of}
 use Rattle.book.specs.Book.{cards, withdrawn, well_formed}
 use Rattle.book.proofs.Sections.{formed_sized}
-use Rattle.reader.specs.declared.Entry.{Entry}
-use Rattle.reader.specs.declared.Entry.TheVariants as entry
-use Rattle.reader.specs.declared.Step.{Step}
-use Rattle.reader.specs.Walk.{past_count, no_step, entry_step, step_at, step_after}
+use Rattle.std.specs.Prelude.{Some}
+use Rattle.reader.specs.declared.Kind.{Kind}
+use Rattle.reader.specs.declared.Kind.TheVariants.{Card, Withdrawn}
+use Rattle.reader.specs.Walk.{Step, past_count, no_step, entry_step, step_at, step_after}
 
 -- ---- the ways through a step
 module _ (b : List ℕ) (at : ℕ) where
   abbrev here : ℕ
   here = past_count at (end_of (cards b))
 
-  pub at_card : here < end_of (cards b) → entry_step entry.Card 37 (length b) here ≡ step_at b at
+  pub at_card : here < end_of (cards b) → entry_step Card 37 (length b) here ≡ step_at b at
   unfolding step_at
   at_card h = rw (lt-ltb here (end_of (cards b)) h) refl
 
-  pub at_serial : end_of (cards b) ≤ here → here < end_of (withdrawn b) → entry_step entry.Withdrawn 13 (length b) here ≡ step_at b at
+  pub at_serial : end_of (cards b) ≤ here → here < end_of (withdrawn b) → entry_step Withdrawn 13 (length b) here ≡ step_at b at
   unfolding step_at
   at_serial h l = rw (le-ltb here (end_of (cards b)) h, lt-ltb here (end_of (withdrawn b)) l) refl
 
@@ -33,34 +33,25 @@ module _ (b : List ℕ) (at : ℕ) where
   at_end h l = rw (le-ltb here (end_of (cards b)) h, le-ltb here (end_of (withdrawn b)) l) refl
 
 -- ---- a step never goes back
-found_at : (t : Bool) (e : Entry) (size at : ℕ) → (cond t (record { entry = e; at = at; next = at + size }) (no_step at)).at ≡ at
-found_at true e size at = refl
-found_at false e size at = refl
+went : (t : Bool) (kind : Kind) (size at : ℕ) → at ≤ (cond t (record { found = Some (record { kind = kind; at = at }); next = at + size }) (no_step at)).next
+went true kind size at = omega arith
+went false kind size at = omega arith
 
-entry_at : (e : Entry) (size len at : ℕ) → (entry_step e size len at).at ≡ at
+entry_on : (kind : Kind) (size len at : ℕ) → at ≤ (entry_step kind size len at).next
 unfolding entry_step
-entry_at e size len at = found_at (leb (at + size) len) e size at
+entry_on kind size len at = went (leb (at + size) len) kind size at
 
-one_at : (t u : Bool) (x y z : Step) (p : ℕ) → x.at ≡ p → y.at ≡ p → z.at ≡ p → (cond t x (cond u y z)).at ≡ p
-one_at true u x y z p h i j = h
-one_at false true x y z p h i j = i
-one_at false false x y z p h i j = j
+one_on : (t u : Bool) (x y z : Step) (p : ℕ) → p ≤ x.next → p ≤ y.next → p ≤ z.next → p ≤ (cond t x (cond u y z)).next
+one_on true u x y z p h i j = h
+one_on false true x y z p h i j = i
+one_on false false x y z p h i j = j
 
-past_up : (t : Bool) (at : ℕ) → at ≤ cond t (at + 2) at
+pub past_up : (t : Bool) (at : ℕ) → at ≤ cond t (at + 2) at
 past_up true at = omega arith
 past_up false at = omega arith
 
-pub not_back : (b : List ℕ) (at : ℕ) → at ≤ (step_at b at).at
-unfolding step_at
-not_back b at =
-    let e = end_of (cards b) in
-    let p = past_count at e in
-    let z = one_at (ltb p e) (ltb p (end_of (withdrawn b))) (entry_step entry.Card 37 (length b) p) (entry_step entry.Withdrawn 13 (length b) p) (no_step p) p
-    (entry_at entry.Card 37 (length b) p) (entry_at entry.Withdrawn 13 (length b) p) refl in
-    rw z (past_up (eqb at e) at)
-
 -- ---- the walk through a book of the right size
-there : (e : Entry) (size len at : ℕ) → at + size ≤ len → entry_step e size len at ≡ record { entry = e; at = at; next = at + size }
+there : (e : Kind) (size len at : ℕ) → at + size ≤ len → entry_step e size len at ≡ record { found = Some (record { kind = e; at = at }); next = at + size }
 unfolding entry_step
 there e size len at h = rw (le-leb (at + size) len h) refl
 
@@ -74,11 +65,11 @@ whole : (b : List ℕ) → well_formed b ≡ true → length b ≡ end_of (withd
 whole b e = (formed_sized b e).whole
 
 -- the place at which step k is found
-unfoldable place_after : List ℕ → ℕ → ℕ
+unfoldable pub place_after : List ℕ → ℕ → ℕ
 place_after b zero = 2
 place_after b (suc k) = (step_at b (place_after b k)).next
 
-found_there : (b : List ℕ) (k : ℕ) → step_after b k ≡ step_at b (place_after b k)
+pub found_there : (b : List ℕ) (k : ℕ) → step_after b k ≡ step_at b (place_after b k)
 unfolding step_after place_after
 found_there b zero = refl
 found_there b (suc k) = ap (λ (s : Step). step_at b s.next) (found_there b k)
@@ -94,33 +85,33 @@ module _ (b : List ℕ) (formed : well_formed b ≡ true) where
   card_fits : (k : ℕ) → k < n → k * 37 + 37 ≤ n * 37
   card_fits k h = omega arith
 
-  card_step : (at k : ℕ) → k < n → at ≡ 2 + k * 37 → step_at b at ≡ record { entry = entry.Card; at = 2 + k * 37; next = 2 + (k + 1) * 37 }
+  card_step : (at k : ℕ) → k < n → at ≡ 2 + k * 37 → step_at b at ≡ record { found = Some (record { kind = Card; at = 2 + k * 37 }); next = 2 + (k + 1) * 37 }
   card_step at k h e =
       let d : (at ≡ end_of (cards b) → ⊥) = λ q. omega (arith, card_fits k h) in
       let s : past_count at (end_of (cards b)) ≡ at = stays at (end_of (cards b)) d in
       sym (at_card b at (omega (arith, s, card_fits k h)))
-      ∙ ap (entry_step entry.Card 37 (length b)) s
-      ∙ there entry.Card 37 (length b) at (omega (arith, whole b formed, card_fits k h))
-      ∙ ap (λ (p : ℕ). record { entry = entry.Card; at = p; next = p + 37 }) e
-      ∙ ap (λ (q : ℕ). record { entry = entry.Card; at = 2 + k * 37; next = q }) (omega arith)
+      ∙ ap (entry_step Card 37 (length b)) s
+      ∙ there Card 37 (length b) at (omega (arith, whole b formed, card_fits k h))
+      ∙ ap (λ (p : ℕ). record { found = Some (record { kind = Card; at = p }); next = p + 37 }) e
+      ∙ ap (λ (q : ℕ). record { found = Some (record { kind = Card; at = 2 + k * 37 }); next = q }) (omega arith)
 
   after_cards : (k : ℕ) → k ≤ n → place_after b k ≡ 2 + k * 37
   unfolding place_after
   after_cards zero h = refl
   after_cards (suc k) h = ap (λ (s : Step). s.next) (card_step (place_after b k) k (omega arith) (after_cards k (omega arith))) ∙ omega arith
 
-  pub cards_walked : (k : ℕ) → k < n → step_after b k ≡ record { entry = entry.Card; at = place_of (cards b) k; next = place_of (cards b) (k + 1) }
+  pub cards_walked : (k : ℕ) → k < n → step_after b k ≡ record { found = Some (record { kind = Card; at = place_of (cards b) k }); next = place_of (cards b) (k + 1) }
   cards_walked k h = found_there b k ∙ card_step (place_after b k) k h (after_cards k (omega arith))
 
   -- ---- withdrawn serials: the first is found from the count, each later one from its place
   serial_step : (at j : ℕ) → j < m → past_count at (end_of (cards b)) ≡ 2 + n * 37 + 2 + j * 13 →
-      step_at b at ≡ record { entry = entry.Withdrawn; at = place_of (withdrawn b) j; next = place_of (withdrawn b) (j + 1) }
+      step_at b at ≡ record { found = Some (record { kind = Withdrawn; at = place_of (withdrawn b) j }); next = place_of (withdrawn b) (j + 1) }
   serial_step at j h s =
       let fits : j * 13 + 13 ≤ m * 13 = omega arith in
       sym (at_serial b at (omega (arith, s)) (omega (arith, s, fits)))
-      ∙ ap (entry_step entry.Withdrawn 13 (length b)) s
-      ∙ there entry.Withdrawn 13 (length b) (2 + n * 37 + 2 + j * 13) (omega (arith, whole b formed, fits))
-      ∙ ap (λ (q : ℕ). record { entry = entry.Withdrawn; at = 2 + n * 37 + 2 + j * 13; next = q }) (omega arith)
+      ∙ ap (entry_step Withdrawn 13 (length b)) s
+      ∙ there Withdrawn 13 (length b) (2 + n * 37 + 2 + j * 13) (omega (arith, whole b formed, fits))
+      ∙ ap (λ (q : ℕ). record { found = Some (record { kind = Withdrawn; at = 2 + n * 37 + 2 + j * 13 }); next = q }) (omega arith)
 
   -- where the reader is before withdrawn serial j: at the count before the first, and then at each one's place
   after_serials : (j : ℕ) → j ≤ m → past_count (place_after b (n + j)) (end_of (cards b)) ≡ 2 + n * 37 + 2 + j * 13
@@ -135,7 +126,7 @@ module _ (b : List ℕ) (formed : well_formed b ≡ true) where
       stays (place_after b (n + suc j)) (end_of (cards b)) (λ q. omega (arith, place)) ∙ place ∙ omega arith
 
   pub serials_walked : (j : ℕ) → j < m →
-      step_after b (n + j) ≡ record { entry = entry.Withdrawn; at = place_of (withdrawn b) j; next = place_of (withdrawn b) (j + 1) }
+      step_after b (n + j) ≡ record { found = Some (record { kind = Withdrawn; at = place_of (withdrawn b) j }); next = place_of (withdrawn b) (j + 1) }
   serials_walked j h = found_there b (n + j) ∙ serial_step (place_after b (n + j)) j h (after_serials j (omega arith))
 
   -- ---- the end, where the reader stays

@@ -1,30 +1,29 @@
-// The bench reader: it walks a book card by card, and then its withdrawn serials, holding its place in the lent bytes.
+// The bench reader: an iterator that walks a book card by card, and then its withdrawn serials, holding its place in the lent bytes.
 #![tactic(auto)]
 
-ghost use Rattle.std.specs.Prelude.{◌≡◌, ◌≤◌};
-ghost use Rattle.reader.specs.Walk.{past_count, entry_step, no_step, step_at};
+ghost use Rattle.std.specs.Prelude.{◌≡◌, ◌≤◌, length, ⊤};
+ghost use Rattle.std.specs.Iterator.{MakesProgress};
+ghost use Rattle.reader.specs.Walk.{past_count, entry_step, step_at, ahead};
 
-// What can stand at a place of a book.
-#[derive(Clone, Copy)]
-pub enum Entry {
+// What kinds of entries a book has.
+#[derive(Clone, Copy, Debug, PartialEq, Eq)]
+pub enum Kind {
     Card,
     Withdrawn,
-    End,
 }
 
-// What stands there, the place of its first byte, and the place after it.
-#[derive(Clone, Copy)]
-pub struct Step {
-    pub entry: Entry,
+// An entry of a book, and the place of its first byte.
+#[derive(Clone, Copy, Debug, PartialEq, Eq)]
+pub struct Entry {
+    pub kind: Kind,
     pub at: usize,
-    pub next: usize,
 }
 
-// The book, and what stands at the reader's place in it.
+// The book, and the place at which the reader stands in it.
 #[derive(Clone, Copy)]
 pub struct Reader<'a> {
     pub book: &'a [u8],
-    pub here: Step,
+    pub place: usize,
 }
 
 // Behind the last card stands the count of the withdrawn serials, two bytes, which is passed over.
@@ -35,66 +34,52 @@ fn past_count(at: usize, end: usize) -> usize
     if at == end { at + 2 } else { at }
 }
 
-fn no_step(at: usize) -> Step
-    ensures { result ≡ no_step at }
-{
-    Step {
-        entry: Entry::End,
-        at,
-        next: at,
+impl<'a> Reader<'a> {
+    // A reader at the first entry of a book: behind the count of the cards.
+    pub fn new(book: &'a [u8]) -> Reader<'a>
+        ensures { (result.book ≡ book.entry) × (result.place ≡ 2) }
+    {
+        Reader { book, place: 2 }
+    }
+
+    // Goes past an entry of so many bytes, where the bytes are there.
+    fn pass(&mut self, kind: Kind, size: usize) -> Option<Entry>
+        requires { (size ≤ 37) × (self.now.place ≤ 3276754) }
+        ensures { (self.new.book ≡ self.old.book) × (result ≡ (entry_step kind size (length self.old.book.now) self.old.place).found) × (self.new.place ≡ (entry_step kind size (length self.old.book.now) self.old.place).next) }
+    {
+        let at = self.place;
+        let end = at + size;
+        if end <= self.book.len() {
+            self.place = end;
+            return Some(Entry { kind, at });
+        }
+        None
     }
 }
 
-// An entry of so many bytes, where the bytes are there.
-fn entry_step(entry: Entry, size: usize, len: usize, at: usize) -> Step
-    requires { (size ≤ 37) × (at ≤ 3276754) }
-    ensures { result ≡ entry_step entry size len at }
-{
-    let end = at + size;
-    if end <= len {
-        return Step {
-            entry,
-            at,
-            next: end,
-        };
-    }
-    no_step(at)
-}
+impl<'a> Iterator for Reader<'a> {
+    type Item = Entry;
 
-// The work of the reader, on a plain slice and a number.
-fn step_at(b: &[u8], at: usize) -> Step
-    ensures { result ≡ step_at b.now at }
-{
-    let c = book::cards(b);
-    let w = book::withdrawn(b);
-    let cards_end = 2 + c.count * 37;
-    let end = w.base + w.count * 13;
-    let from = past_count(at, cards_end);
-    if from < cards_end {
-        return entry_step(Entry::Card, 37, b.len(), from);
-    }
-    if from < end {
-        return entry_step(Entry::Withdrawn, 13, b.len(), from);
-    }
-    no_step(from)
-}
+    ghost next_gives = { λ r found s. (s.book ≡ r.book) × (found ≡ (step_at r.book.now r.place).found) × (s.place ≡ (step_at r.book.now r.place).next) };
 
-// A reader at the first entry of a book: behind the count of the cards.
-pub fn new<'a>(book: &'a [u8]) -> Reader<'a>
-    ensures { (result.book ≡ book.entry) × (result.here ≡ step_at book.now 2) }
-{
-    Reader {
-        book,
-        here: step_at(book, 2),
-    }
-}
+    ghost remaining = { ahead };
 
-// The reader at the entry behind the one where it stands; at the end it stays.
-pub fn next<'a>(r: Reader<'a>) -> Reader<'a>
-    ensures { (result.book ≡ r.entry.book) × (result.here ≡ step_at r.entry.book.now r.entry.here.next) }
-{
-    Reader {
-        book: r.book,
-        here: step_at(r.book, r.here.next),
+    // The entry at the reader's place, behind which it goes; at the end it stays.
+    fn next(&mut self) -> Option<Entry>
+        ensures steps { (self.new.book ≡ self.old.book) × (result ≡ (step_at self.old.book.now self.old.place).found) × (self.new.place ≡ (step_at self.old.book.now self.old.place).next) }
+        ensures goes { MakesProgress (λ _. ⊤) ahead self.old result self.new }
+    {
+        let cards = book::cards(self.book);
+        let withdrawn = book::withdrawn(self.book);
+        let cards_end = 2 + cards.count * 37;
+        let end = withdrawn.base + withdrawn.count * 13;
+        self.place = past_count(self.place, cards_end);
+        if self.place < cards_end {
+            return self.pass(Kind::Card, 37);
+        }
+        if self.place < end {
+            return self.pass(Kind::Withdrawn, 13);
+        }
+        None
     }
 }

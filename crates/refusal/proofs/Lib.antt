@@ -1,3 +1,4 @@
 -- Laws of the refusals' words, and what the contract decides.
 pub mod Rows
+pub mod Numbers
 pub mod Decided

@@ -1,2 +1,3 @@
--- The refusals' words, for people who meet a refusal's number.
+-- The refusals: their numbers, and their words for people who meet a number.
+pub mod Numbers
 pub mod Words

@@ -1,47 +1,113 @@
-// The refusals' words: document 01, "Numbers that say no", in short English.
+// The refusals: document 01, "Numbers that say no", each with its number and, in short English, its words.
 #![tactic(auto)]
 
-ghost use Rattle.std.specs.Prelude.{◌≡◌, ◌≤◌, ◌<◌, length};
+ghost use Rattle.std.specs.Prelude.{◌≡◌, length, Some};
 ghost use Rattle.serial.specs.Places.{put_within};
+ghost use Rattle.refusal.specs.Numbers.{number_of, numbered};
 ghost use Rattle.refusal.specs.Words.{words_of, written_of};
 
-// A row of 40 bytes for each number from 0 to 21, spaces behind its words; 0 is no refusal.
-const ROWS: [u8; 880] = *b"\
-    .                                       \
-    not 1 to 12 digits                      \
-    the book is not well formed             \
-    the serial is withdrawn                 \
-    no card with that serial                \
-    blocks unequal, or over 4,096 samples   \
-    a sample outside the 24-bit range       \
-    a start setting out of range            \
-    no such port                            \
-    the port is open already                \
-    the port is not open                    \
-    no such field                           \
-    a value outside its range               \
-    a field not written                     \
-    no interval has closed yet              \
-    nothing is held on this port            \
-    no register has this byte address       \
-    MIN or MAX of a slot that is off        \
-    no card in force and none waits         \
-    the serial is in that section already   \
-    the section is full                     \
-    the buffer is too short                 \
-";
+use std::fmt;
 
-// How many bytes of each row are words.
-const LENGTHS: [usize; 22] = [
-    0, 18, 27, 23, 24, 37, 33, 28, 12, 24, 20, 13, 25, 19, 26, 28, 33, 32, 31, 37, 19, 23,
-];
+// Why a step is refused, in the order of the document's numbers.
+#[derive(Clone, Copy, Debug, PartialEq, Eq)]
+pub enum Refusal {
+    NotSerial = 1,
+    Malformed,
+    Withdrawn,
+    NoCard,
+    BlockSize,
+    SampleRange,
+    StartRange,
+    NoPort,
+    PortOpen,
+    PortShut,
+    NoField,
+    ValueRange,
+    FieldMissing,
+    NoInterval,
+    NothingHeld,
+    NoRegister,
+    SlotOff,
+    NoCardYet,
+    Present,
+    Full,
+    NoRoom,
+}
 
-// How many bytes the words of a number have.
-fn length_of(number: usize) -> usize
-    requires { number < 22 }
-    ensures { (result ≡ length (words_of number)) × (result ≤ 40) }
-{
-    LENGTHS[number]
+impl Refusal {
+    // The document's number.
+    pub fn number(self) -> u8
+        ensures { result ≡ number_of self }
+    {
+        self as u8
+    }
+
+    // In short English.
+    pub fn words(self) -> &'static str
+        ensures { result.now ≡ words_of (number_of self) }
+    {
+        match self {
+            Refusal::NotSerial => "not 1 to 12 digits",
+            Refusal::Malformed => "the book is not well formed",
+            Refusal::Withdrawn => "the serial is withdrawn",
+            Refusal::NoCard => "no card with that serial",
+            Refusal::BlockSize => "blocks unequal, or over 4,096 samples",
+            Refusal::SampleRange => "a sample outside the 24-bit range",
+            Refusal::StartRange => "a start setting out of range",
+            Refusal::NoPort => "no such port",
+            Refusal::PortOpen => "the port is open already",
+            Refusal::PortShut => "the port is not open",
+            Refusal::NoField => "no such field",
+            Refusal::ValueRange => "a value outside its range",
+            Refusal::FieldMissing => "a field not written",
+            Refusal::NoInterval => "no interval has closed yet",
+            Refusal::NothingHeld => "nothing is held on this port",
+            Refusal::NoRegister => "no register has this byte address",
+            Refusal::SlotOff => "MIN or MAX of a slot that is off",
+            Refusal::NoCardYet => "no card in force and none waits",
+            Refusal::Present => "the serial is in that section already",
+            Refusal::Full => "the section is full",
+            Refusal::NoRoom => "the buffer is too short",
+        }
+    }
+
+    // The refusal with a number; none has any but 1 to 21.
+    pub fn of_number(number: usize) -> Option<Refusal>
+        ensures { result ≡ numbered number }
+    {
+        match number {
+            1 => Some(Refusal::NotSerial),
+            2 => Some(Refusal::Malformed),
+            3 => Some(Refusal::Withdrawn),
+            4 => Some(Refusal::NoCard),
+            5 => Some(Refusal::BlockSize),
+            6 => Some(Refusal::SampleRange),
+            7 => Some(Refusal::StartRange),
+            8 => Some(Refusal::NoPort),
+            9 => Some(Refusal::PortOpen),
+            10 => Some(Refusal::PortShut),
+            11 => Some(Refusal::NoField),
+            12 => Some(Refusal::ValueRange),
+            13 => Some(Refusal::FieldMissing),
+            14 => Some(Refusal::NoInterval),
+            15 => Some(Refusal::NothingHeld),
+            16 => Some(Refusal::NoRegister),
+            17 => Some(Refusal::SlotOff),
+            18 => Some(Refusal::NoCardYet),
+            19 => Some(Refusal::Present),
+            20 => Some(Refusal::Full),
+            21 => Some(Refusal::NoRoom),
+            _ => None,
+        }
+    }
+}
+
+impl fmt::Display for Refusal {
+    ghost output = { λ r. Some (words_of (number_of r)) };
+
+    fn fmt<W: fmt::Write>(&self, f: &mut fmt::Formatter<W>) -> fmt::Result {
+        f.write_str(self.words())
+    }
 }
 
 // Puts a text at the front of a buffer, where it fits, and gives how many bytes are written.
@@ -61,11 +127,8 @@ pub fn words(number: usize, buffer: &mut [u8]) -> usize
     ensures { (result ≡ written_of (words_of number) (length buffer.old))
         × (buffer.new ≡ put_within buffer.old 0 (words_of number)) }
 {
-    if 21 < number {
-        return 0;
+    match Refusal::of_number(number) {
+        Some(refusal) => put(buffer, refusal.words().as_bytes()),
+        None => 0,
     }
-    let rows = ROWS;
-    let from = 40 * number;
-    let end = from + length_of(number);
-    put(buffer, &rows[from..end])
 }

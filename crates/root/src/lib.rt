@@ -9,9 +9,8 @@ pub fn root(x: u64) -> u64
     ensures { result ≡ root_of x }
 {
     let mut r: u64 = 0;
-    let mut left: u32 = 32;
-    while 0 < left {
-        left -= 1;
+    for pair in 0..32u32 {
+        let left = 31 - pair;
         let odd = 2 * r + 1;
         if odd * odd <= x >> (2 * left) {
             r = odd;

@@ -9,7 +9,7 @@ use card::Card;
 use card::names::PHASE;
 
 // A corrected sample, and whether its value before clipping lay outside the 24-bit range.
-#[derive(Clone, Copy)]
+#[derive(Clone, Copy, Debug, PartialEq, Eq)]
 pub struct Corrected {
     pub value: i32,
     pub clipped: bool,
@@ -39,10 +39,8 @@ pub fn all_in_range(a: &[i32]) -> bool
     ensures { result ≡ every24 a.now }
 {
     let mut ok = true;
-    let mut k: usize = 0;
-    while k < a.len() {
-        ok = ok & range::in_range(a[k]);
-        k += 1;
+    for x in a {
+        ok = ok & range::in_range(*x);
     }
     ok
 }
@@ -56,14 +54,14 @@ pub fn phase_in_range(c: Card) -> bool
 }
 
 // A value for each current input.
-#[derive(Clone, Copy)]
+#[derive(Clone, Copy, Debug, PartialEq, Eq)]
 pub struct Inputs {
     pub s1: i32,
     pub s3: i32,
 }
 
 // Of one current source: the sum of its squares and of its products with the voltage, and its largest size.
-#[derive(Clone, Copy)]
+#[derive(Clone, Copy, Debug, PartialEq, Eq)]
 pub struct Flow {
     pub ii: u64,
     pub vi: i64,
@@ -71,7 +69,7 @@ pub struct Flow {
 }
 
 // How many of an interval's own voltages and inputs were clipped.
-#[derive(Clone, Copy)]
+#[derive(Clone, Copy, Debug, PartialEq, Eq)]
 pub struct Clips {
     pub v: u32,
     pub s1: u32,
@@ -79,7 +77,7 @@ pub struct Clips {
 }
 
 // vv is the sum of the voltage squares; a and b are of the sources IA and IB; raw has the last raw inputs, where any were seen.
-#[derive(Clone, Copy)]
+#[derive(Clone, Copy, Debug, PartialEq, Eq)]
 pub struct Sums {
     pub vv: u64,
     pub a: Flow,
@@ -146,15 +144,10 @@ impl Sums {
     pub fn emptied(self) -> Sums
         ensures { result ≡ emptied self }
     {
-        let nothing = Flow::none();
-        let raw = self.raw;
         Sums {
-            vv: 0,
-            a: nothing,
-            b: nothing,
-            clips: Clips::unclipped(),
             seen: self.seen,
-            raw,
+            raw: self.raw,
+            ..Sums::none()
         }
     }
 

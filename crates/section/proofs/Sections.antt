@@ -1,26 +1,27 @@
 -- Laws of sections that the proofs of the functions, and of the crates above, cite.
 use Prim.Native.Nat.{ℕ, ◌+◌, ◌*◌, ◌-◌, ◌/◌, ◌≤◌, ◌<◌}
 use mathlib.Core.Path.{◌≡◌, refl, sym, ap, ◌∙◌}
-use mathlib.Core.Bool.{Bool, true, false, not, ◌&&◌}
+use mathlib.Core.Bool.{Bool, true, false, cond, ◌&&◌}
 use mathlib.Core.List.{List}
 use native.Mathlib.Nat.{le-div_iff_mul-le}
 use native.Mathlib.Omega.{arith}
 use lib.ListN.{length, get_or, take, drop}
 use lib.Seq.{take-take, ext_get_or}
-use lib.Dec.{leb, eqb}
-use borrow.Author.Tests.{ne_eqb, eq-eqb, eqb-true, leb-true, leb-false, le-leb, lt-leb}
-use Rattle.serial.proofs.Every.{every_at, every_from, every_fails, and_left, and_right, both}
+use lib.Dec.{leb, ltb, eqb}
+use Rattle.std.specs.Prelude.{Some, None, unwrap_or}
+use borrow.Author.Tests.{eq-eqb, eqb-true, leb-true, leb-false, le-leb, lt-leb, ltb-true}
+use Rattle.serial.proofs.Every.{every_at, every_from, and_left, and_right, both}
 use Rattle.serial.specs.Places.{part}
+use Rattle.serial.proofs.Places.{length_part, row_fits}
+use Rattle.std.specs.Cmp.Lexicographic.{pointwise}
+use Rattle.std.proofs.lemmas.Slice.Eq.{slice_eq-Decides}
+use Rattle.std.proofs.lemmas.Bool.Decides.{same_from_decides, Decides-eqb}
 use Rattle.serial.specs.Serials.{serial_of, serial_bytes}
-use Rattle.section.specs.Sections.{place_of, end_of, Lies, lies, entry_at, serial_at, entries_ok, same, distinct, section_ok, first_of, find_in}
+use Rattle.section.specs.Sections.{place_of, end_of, Lies, lies, entry_at, serial_at, entries_ok, same, distinct, section_ok, first_of, find_in, entry_of, found_in, has, place_in, placed_in}
 use Rattle.section.specs.declared.Section.{Section}
 
 -- ---- two serials
--- that differ at a byte are not the same
-pub not_same : (e f : List ℕ) (k : ℕ) → k < 13 → (get_or e k 0 ≡ get_or f k 0 → ⊥) → not (same e f) ≡ true
-unfolding same
-not_same e f k l h = ap not (every_fails _ 13 k l (ne_eqb _ _ h))
-
+-- are the same exactly where they are one list
 pub same_self : (x : List ℕ) → same x x ≡ true
 unfolding same
 same_self x = every_from _ 13 (λ k l. eq-eqb (get_or x k 0) (get_or x k 0) refl)
@@ -28,6 +29,11 @@ same_self x = every_from _ 13 (λ k l. eq-eqb (get_or x k 0) (get_or x k 0) refl
 pub same_is : (x y : List ℕ) → length x ≡ 13 → length y ≡ 13 → same x y ≡ true → x ≡ y
 unfolding same
 same_is x y lx ly h = ext_get_or 0 x y (lx ∙ sym ly) (λ k l. eqb-true _ _ (every_at (λ (k : ℕ). eqb (get_or x k 0) (get_or y k 0)) 13 h k (omega arith)))
+
+-- they are the same where `==` says so
+pub same_read : (x y : List ℕ) (r : Bool) → length x ≡ 13 → length y ≡ 13 → r ≡ pointwise eqb x y → r ≡ same x y
+same_read x y r lx ly e =
+    same_from_decides r (same x y) (slice_eq-Decides Decides-eqb x y r e) (same_is x y lx ly, λ q. ap (same x) (sym q) ∙ same_self x)
 
 -- an entry's serial is its first 13 bytes
 pub serial_first : (b : List ℕ) (s : Section) (k : ℕ) → 13 ≤ s.size → serial_at b s k ≡ take 13 (entry_at b s k)
@@ -45,6 +51,15 @@ lies_has b s e =
 pub has_lies : (b : List ℕ) (s : Section) → Lies b s → lies b s ≡ true
 unfolding lies
 has_lies b s l = both (le-leb _ _ l.wide) (le-leb _ _ l.inside)
+
+-- each of its entries is whole, and each of its serials
+pub length_entry : (b : List ℕ) (s : Section) (k : ℕ) → Lies b s → k < s.count → length (entry_at b s k) ≡ s.size
+unfolding entry_at
+length_entry b s k l m = length_part b (place_of s k) s.size (omega (arith, row_fits s.base s.size m, l.inside))
+
+pub length_serial : (b : List ℕ) (s : Section) (k : ℕ) → Lies b s → k < s.count → length (serial_at b s k) ≡ 13
+unfolding serial_at
+length_serial b s k l m = length_part b (place_of s k) 13 (omega (arith, row_fits s.base s.size m, l.inside, l.wide))
 
 -- its rows can be counted by a division
 pub rows_fit : (long base size n : ℕ) → 13 ≤ size → base ≤ long → leb n ((long - base) / size) ≡ leb (base + n * size) long
@@ -73,3 +88,36 @@ section_lies b s l = simp (has_lies b s l)
 pub find_lies : (b : List ℕ) (s : Section) (t : List ℕ) → Lies b s → find_in b s t ≡ first_of b s (serial_bytes (serial_of t))
 unfolding find_in
 find_lies b s t l = simp (has_lies b s l)
+
+-- ---- what is found, as an entry or none
+pub record FoundAt (b : List ℕ) (s : Section) (t : List ℕ) (k : ℕ) : Type 0 where
+  pub held : has b s t ≡ true
+  pub entry : find_in b s t ≡ k
+  pub within : k < s.count
+
+entry_has : (t : Bool) (n k : ℕ) → cond t (Some n) None ≡ Some k → (t ≡ true) × (n ≡ k)
+entry_has true n k e = (refl, cc)
+entry_has false n k e = cc
+
+entry_none : (t : Bool) (n : ℕ) → cond t (Some n) None ≡ None → t ≡ false
+entry_none true n e = cc
+entry_none false n e = refl
+
+pub found_at : (b : List ℕ) (s : Section) (t : List ℕ) (k : ℕ) → Some k ≡ found_in b s t → FoundAt b s t k
+unfolding found_in entry_of has
+found_at b s t k e =
+    let h = entry_has (ltb (find_in b s t) s.count) (find_in b s t) k (sym e) in
+    record { held = h.0; entry = h.1; within = omega (arith, ltb-true (find_in b s t) s.count h.0, h.1) }
+
+pub found_none : (b : List ℕ) (s : Section) (t : List ℕ) → None ≡ found_in b s t → has b s t ≡ false
+unfolding found_in entry_of has
+found_none b s t e = entry_none (ltb (find_in b s t) s.count) (find_in b s t) (sym e)
+
+-- ---- a place or none, and 0 for none
+place_or : (t : Bool) (n : ℕ) → unwrap_or (cond t (Some n) None) 0 ≡ cond t n 0
+place_or true n = refl
+place_or false n = refl
+
+pub placed_or_none : (b : List ℕ) (s : Section) (k : ℕ) → unwrap_or (placed_in b s k) 0 ≡ place_in b s k
+unfolding placed_in place_in
+placed_or_none b s k = place_or (lies b s && ltb k s.count) (place_of s k)

@@ -1,5 +1,5 @@
 -- A section of the book: entries of one size, one after another. Each begins with the 13 bytes of a serial.
-use Rattle.std.specs.Prelude.{ℕ, ◌+◌, ◌*◌, ◌≤◌, Bool, cond, not, ◌&&◌, List, length, get_or, leb, ltb, eqb}
+use Rattle.std.specs.Prelude.{ℕ, ◌+◌, ◌*◌, ◌≤◌, Bool, cond, not, ◌&&◌, Option, Some, None, List, length, get_or, leb, ltb, eqb}
 use Rattle.serial.specs.Every.{every, first}
 use Rattle.serial.specs.Places.{part}
 use Rattle.serial.specs.Serials.{serial_of, serial_bytes, holds_serial}
@@ -67,6 +67,17 @@ first_of b s x = first (λ (k : ℕ). same (serial_at b s k) x) s.count
 unfoldable pub find_in : List ℕ → Section → List ℕ → ℕ
 find_in b s t = cond (lies b s) (first_of b s (serial_bytes (serial_of t))) s.count
 
+-- the entry that a number below the count is; the count is none
+unfoldable pub entry_of : Section → ℕ → Option ℕ
+entry_of s k = cond (ltb k s.count) (Some k) None
+
+-- the same two searches, as an entry that is found or none
+unfoldable pub first_found : List ℕ → Section → List ℕ → Option ℕ
+first_found b s x = entry_of s (first_of b s x)
+
+unfoldable pub found_in : List ℕ → Section → List ℕ → Option ℕ
+found_in b s t = entry_of s (find_in b s t)
+
 -- the serial t stands in the section
 unfoldable pub has : List ℕ → Section → List ℕ → Bool
 has b s t = ltb (find_in b s t) s.count
@@ -74,3 +85,7 @@ has b s t = ltb (find_in b s t) s.count
 -- ---- the walk: the place of entry k, and 0, where no entry is, past the last or in a section that does not lie in the bytes
 unfoldable pub place_in : List ℕ → Section → ℕ → ℕ
 place_in b s k = cond (lies b s && ltb k s.count) (place_of s k) 0
+
+-- the same, as a place or none
+unfoldable pub placed_in : List ℕ → Section → ℕ → Option ℕ
+placed_in b s k = cond (lies b s && ltb k s.count) (Some (place_of s k)) None

@@ -1,8 +1,11 @@
 -- Laws of tests over every number below a bound, and of the first that passes. Each loop that tests or searches cites these.
 use Prim.Native.Nat.{ℕ, zero, suc, ◌+◌, ◌≤◌, ◌<◌}
-use mathlib.Core.Path.{◌≡◌, refl, sym, ap}
+use mathlib.Core.Path.{◌≡◌, refl, sym, ap, ◌∙◌}
 use mathlib.Core.Bool.{Bool, true, false, cond, not, ◌&&◌, and-true, and-false, false≢true}
 use mathlib.Core.Logic.{⊎_elim}
+use mathlib.Core.List.{List, [], ◌∷◌}
+use Rattle.std.specs.List.{list_all}
+use lib.ListN.{length, get_or}
 use native.Mathlib.Nat.{le_of_suc-le-suc, not-suc-le-zero, eq-or-lt_of_le}
 use native.Mathlib.Numerals.{add-one}
 use native.Mathlib.Omega.{arith}
@@ -66,6 +69,22 @@ pub every_same : (p q : ℕ → Bool) (n : ℕ) → ((k : ℕ) → k < n → p k
 unfolding every
 every_same p q zero h = refl
 every_same p q (suc n) h = rw (every_same p q n (λ k l. h k (omega arith)), h n (omega arith))
+
+-- from the first on, where a list is tested head by head
+pub every_front : (p : ℕ → Bool) (n : ℕ) → every p (suc n) ≡ (p 0 && every (λ (k : ℕ). p (suc k)) n)
+unfolding every
+every_front p zero = sym (and-true (p 0))
+every_front p (suc n) = rw (every_front p n) (regroup (p 0) (every (λ (k : ℕ). p (suc k)) n) (p (suc n)))
+  where
+    regroup : (a b c : Bool) → ((a && b) && c) ≡ (a && (b && c))
+    regroup true b c = refl
+    regroup false b c = refl
+
+-- a test of each element of a list, as `all` makes it
+pub every_of_list : {A : Type 0} (test : A → Bool) (d : A) (xs : List A) → list_all test xs ≡ every (λ (k : ℕ). test (get_or xs k d)) (length xs)
+unfolding every
+every_of_list test d [] = refl
+every_of_list test d (x ∷ xs) = ap (λ (b : Bool). test x && b) (every_of_list test d xs) ∙ sym (every_front (λ (k : ℕ). test (get_or (x ∷ xs) k d)) (length xs))
 
 -- ---- first
 pub first_none : (p : ℕ → Bool) (n : ℕ) → every (λ (k : ℕ). not (p k)) n ≡ true → first p n ≡ n

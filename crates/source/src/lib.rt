@@ -5,7 +5,7 @@ ghost use Rattle.std.specs.Prelude.{◌≡◌};
 ghost use Rattle.source.specs.Sources.{multipliers_in, uses_both, blended};
 
 // What a source takes of S1 and of S3. (So narrow that no product with an i32 can pass 64 bits.)
-#[derive(Clone, Copy)]
+#[derive(Clone, Copy, Debug, PartialEq, Eq)]
 pub struct Multipliers {
     pub m1: i8,
     pub m3: i8,

@@ -1,4 +1,5 @@
 -- The theorems, in reading order.
+pub mod Answers
 pub mod Outcomes
 pub mod Strike
 pub mod Move

@@ -5,40 +5,20 @@
 pub mod read;
 
 ghost use Rattle.std.specs.Prelude.{◌≡◌, [], ◌∷◌, ◌^◌, ◌<◌};
-ghost use Rattle.lookup.specs.Answers.{found_answer};
-ghost use Rattle.change.specs.Answers.{changed_answer};
+ghost use Rattle.book.specs.Answers.{answer_of};
 ghost use Rattle.lookup.specs.Lookup.{lookup_of};
 ghost use Rattle.change.specs.Change.{add_answer, added, withdraw_answer, after_withdraw};
 ghost use Rattle.stock.specs.Signed.{signed};
 
-use change::Changed;
-use lookup::Found;
+use refusal::Refusal;
 
-fn found_number(answer: Found) -> i64
-    requires { (found_answer answer).value < 2 ^ 63 }
-    ensures { result ≡ signed (found_answer answer) }
+fn signed_number(answer: Result<usize, Refusal>) -> i64
+    requires { (answer_of answer).value < 2 ^ 63 }
+    ensures { result ≡ signed (answer_of answer) }
 {
     match answer {
-        Found::At(n) => n as i64,
-        Found::NotSerial => -1,
-        Found::Malformed => -2,
-        Found::Withdrawn => -3,
-        Found::NoCard => -4,
-    }
-}
-
-fn changed_number(answer: Changed) -> i64
-    requires { (changed_answer answer).value < 2 ^ 63 }
-    ensures { result ≡ signed (changed_answer answer) }
-{
-    match answer {
-        Changed::Length(n) => n as i64,
-        Changed::NotSerial => -1,
-        Changed::OutOfRange => -12,
-        Changed::Malformed => -2,
-        Changed::Present => -19,
-        Changed::Full => -20,
-        Changed::NoRoom => -21,
+        Ok(n) => n as i64,
+        Err(refusal) => -i64::from(refusal.number()),
     }
 }
 
@@ -46,7 +26,7 @@ fn changed_number(answer: Changed) -> i64
 pub fn stock_lookup(book: &[u8], serial: &[u8]) -> i64
     ensures { result ≡ signed (lookup_of book.now serial.now) }
 {
-    found_number(lookup::lookup(book, serial))
+    signed_number(lookup::lookup(book, serial))
 }
 
 // Adds the card with a serial and the eight fields; the length of the new book.
@@ -69,7 +49,7 @@ pub fn stock_add(
         (voffs ∷ ioffs ∷ vgain ∷ igain ∷ phase ∷ irmsoffs ∷ squelch ∷ poffs ∷ [])) }
 {
     let values = [voffs, ioffs, vgain, igain, phase, irmsoffs, squelch, poffs];
-    changed_number(change::add(buffer, used, serial, values))
+    signed_number(change::add(buffer, used, serial, values))
 }
 
 // Withdraws a serial; the length of the new book.
@@ -77,5 +57,5 @@ pub fn stock_withdraw(buffer: &mut [u8], used: usize, serial: &[u8]) -> i64
     ensures { (result ≡ signed (withdraw_answer buffer.old used serial.now))
         × (buffer.new ≡ after_withdraw buffer.old used serial.now) }
 {
-    changed_number(change::withdraw(buffer, used, serial))
+    signed_number(change::withdraw(buffer, used, serial))
 }

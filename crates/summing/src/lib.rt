@@ -247,13 +247,11 @@ fn run_with(s0: Sums, p: Probe, first: Inputs, v: &[i32], s1: &[i32], s3: &[i32]
     let mut old1 = first.s1 as i64;
     let mut old3 = first.s3 as i64;
     let mut t = tally_of(s0);
-    let mut k: usize = 0;
-    while k < v.len() {
+    for k in 0..v.len() {
         let x = correct_all(t.clips, p, v[k], s1[k], s3[k]);
         t = take(t, p, x, old1, old3);
         old1 = x.s1;
         old3 = x.s3;
-        k += 1;
     }
     let last = v.len() - 1;
     let raw = Inputs {

@@ -38,6 +38,10 @@ slot_at f (suc (suc (suc (suc zero)))) h = refl
 slot_at f (suc (suc (suc (suc (suc zero))))) h = refl
 slot_at f (suc (suc (suc (suc (suc (suc k)))))) h = absurd (omega arith)
 
+-- a turn lays one slot more over what was there
+pub slot_more : (d : List ℤ) (f : ℕ → ℤ) (k : ℕ) → length d ≡ 6 → k < 6 → set (over d (slots f) k) k (f k) ≡ over d (slots f) (k + 1)
+slot_more d f k e h = rw (slot_at f k h) at (over_more d (slots f) k (pos 0) (rw e h) h)
+
 -- a list of six is its six elements
 pub six_all : (f : List ℤ) → length f ≡ 6 → slots (λ k. get_or f k (pos 0)) ≡ f
 six_all [] e = absurd (omega arith)

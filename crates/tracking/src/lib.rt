@@ -7,7 +7,7 @@ ghost use Rattle.tracking.specs.Tracking.{tracked, further, followed};
 use address::{WordAddr, place_of};
 
 // What each slot has followed.
-#[derive(Clone, Copy)]
+#[derive(Clone, Copy, Debug, PartialEq, Eq)]
 pub struct Ends {
     pub low: [i32; 6],
     pub high: [i32; 6],
@@ -24,8 +24,10 @@ fn further(first: bool, beyond: bool, now: i32, old: i32) -> i32
 fn tracked_of(word: WordAddr, seven: [i32; 7]) -> i32
     ensures { result ≡ tracked word seven }
 {
-    let k = place_of(word);
-    if k < 7 { seven[k] } else { 0 }
+    match place_of(word) {
+        Some(k) => seven[k],
+        None => 0,
+    }
 }
 
 impl Ends {
@@ -35,14 +37,12 @@ impl Ends {
     {
         let mut low = self.low;
         let mut high = self.high;
-        let mut k: usize = 0;
-        while k < 6 {
+        for k in 0..6 {
             let x = tracked_of(track[k], seven);
             let l = low[k];
             let h = high[k];
             low[k] = further(first, x < l, x, l);
             high[k] = further(first, h < x, x, h);
-            k += 1;
         }
         Ends { low, high }
     }

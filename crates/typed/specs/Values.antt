@@ -1,7 +1,6 @@
 -- A value on the command line: a whole number in decimal, with a minus sign (45) before one below zero. A text is the list of its bytes.
-use Rattle.std.specs.Prelude.{ℕ, zero, suc, ◌+◌, ◌-◌, ◌*◌, Bool, true, false, cond, ◌&&◌, List, ℤ, pos, ◌-ℤ◌, leb, eqb, length, get_or, drop}
+use Rattle.std.specs.Prelude.{ℕ, zero, suc, ◌+◌, ◌-◌, ◌*◌, Bool, true, false, cond, ◌&&◌, List, Option, Some, None, ℤ, pos, ◌-ℤ◌, leb, eqb, length, get_or, drop}
 use Rattle.serial.specs.Serials.{digits_ok}
-use Rattle.typed.specs.declared.Value.{Value}
 
 -- the number in the first k digits of a text; 48 is ASCII 0
 unfoldable pub numeral : List ℕ → ℕ → ℕ
@@ -20,9 +19,9 @@ is_numeral t = leb 1 (length t) && digits_ok t
 unfoldable pub signed_by : Bool → ℕ → ℤ
 signed_by below n = cond below (pos 0 -ℤ pos n) (pos n)
 
-unfoldable pub sized_value : Bool → List ℕ → Value
-sized_value below t = record { whole = is_numeral t; value = signed_by below (held (numeral t (length t))) }
+unfoldable pub sized_value : Bool → List ℕ → Option ℤ
+sized_value below t = cond (is_numeral t) (Some (signed_by below (held (numeral t (length t))))) None
 
--- whether a word is such a number, and which
-unfoldable pub value_of : List ℕ → Value
+-- the number that a word is, if it is one
+unfoldable pub value_of : List ℕ → Option ℤ
 value_of w = cond (eqb (get_or w 0 0) 45) (sized_value true (drop 1 w)) (sized_value false w)

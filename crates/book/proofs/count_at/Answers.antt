@@ -5,4 +5,4 @@ use Rattle.book.proofs.count_at.Goals as goal
 
 pub returns : goal.returns
 unfolding count_at
-returns c = rw (← c.byte_at-high.ensures, ← c.byte_at-low.ensures) (omega arith)
+returns c = rw (← c.byte_at.ensures, ← c.byte_at-2.ensures) (omega (arith, c.from.ensures, c.from_le_bytes.ensures), omega (arith, c.from.ensures))

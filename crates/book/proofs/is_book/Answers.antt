@@ -1,21 +1,24 @@
 -- `book::is_book` meets its contract.
 use mathlib.Core.Path.{sym, ◌∙◌}
+use mathlib.Core.Bool.{false≢true}
 use Rattle.book.specs.Book.{well_formed}
 use Rattle.book.proofs.is_book.Goals as goal
+use Rattle.book.proofs.is_book.Goals.{then-sized, else-sized}
 
-pub returns-then-not-sized : goal.returns-then-not-sized
+pub returns-then-is_ok : goal.returns-then-is_ok
 unfolding well_formed
-returns-then-not-sized c = simp (sym c.sized.ensures ∙ c.if-not-sized.true)
+returns-then-is_ok c = elim c.if-sized.branch [
+  | then-sized w ↦
+      let cards = rw w.cards.ensures.0 at (sym w.is_ok.ensures ∙ sym w.value-is ∙ c.if-is_ok.true) in
+      simp (sym c.sized.ensures ∙ w.if-sized.true, cards) (rw c.withdrawn.ensures.0 at c.is_ok-then-is_ok.ensures)
+  | else-sized w ↦ absurd (false≢true (sym w.if-sized.false ∙ sym w.value-is ∙ c.if-is_ok.true))
+]
 
-pub returns-then-not-section_ok : goal.returns-then-not-section_ok
+pub returns-else-is_ok : goal.returns-else-is_ok
 unfolding well_formed
-returns-then-not-section_ok c =
-    let t = sym c.sized.ensures ∙ c.if-not-sized.false in
-    simp (t, rw c.cards.ensures.0 at (sym c.section_ok.ensures ∙ c.if-not-section_ok.true))
-
-pub returns : goal.returns
-unfolding well_formed
-returns c =
-    let t = sym c.sized.ensures ∙ c.if-not-sized.false in
-    let u = rw c.cards.ensures.0 at (sym c.section_ok.ensures ∙ c.if-not-section_ok.false) in
-    simp (t, u) (rw c.withdrawn.ensures.0 at c.section_ok-2.ensures)
+returns-else-is_ok c = elim c.if-sized.branch [
+  | then-sized w ↦
+      let cards = rw w.cards.ensures.0 at (sym w.is_ok.ensures ∙ sym w.value-is ∙ c.if-is_ok.false) in
+      simp (sym c.sized.ensures ∙ w.if-sized.true, cards) c.if-is_ok.false
+  | else-sized w ↦ simp (sym c.sized.ensures ∙ w.if-sized.false) c.if-is_ok.false
+]

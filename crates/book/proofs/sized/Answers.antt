@@ -4,4 +4,4 @@ use Rattle.book.proofs.sized.Goals as goal
 
 pub returns : goal.returns
 unfolding sized
-returns c = simp (c.count_at-w.ensures.0, c.count_at-n.ensures.0)
+returns c = simp (c.cards-n.ensures.0, c.withdrawn-w.ensures.0)

@@ -1,13 +1,9 @@
 -- `card::digits_at` meets its contract: the loop fills the twelve places.
-use Prim.Native.Nat.{ℕ, ◌+◌, ◌-◌, ◌≤◌}
+use Prim.Native.Nat.{ℕ, ◌+◌}
 use mathlib.Core.Path.{◌≡◌}
 use lib.ListN.{length, get_or, take}
 use Rattle.serial.specs.Places.{tab}
 use Rattle.card.proofs.digits_at.Given as goal
 
--- `card::digits_at` meets its contract: the loop fills the twelve places.
 abbrev pub invariant-loop-k : goal.invariant-loop-k
-invariant-loop-k l = (l.k ≤ 12) × (length l.d ≡ 12) × (take l.k l.d ≡ tab (λ (i : ℕ). get_or l.c (1 + i) 0) l.k)
-
-abbrev pub decreases-loop-k : goal.decreases-loop-k
-decreases-loop-k l = 12 - l.k
+invariant-loop-k l = (length l.d ≡ 12) × (take l.k l.d ≡ tab (λ (i : ℕ). get_or l.c (1 + i) 0) l.k)

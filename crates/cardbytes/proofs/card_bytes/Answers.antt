@@ -36,16 +36,16 @@ written c =
 
 pub loop-i-init : goal.loop-i-init
 unfolding fields_bytes
-loop-i-init c = (omega arith, search rules, sym (append-nil _))
+loop-i-init c = (search rules, sym (append-nil _))
 
 pub loop-i-preserved : goal.loop-i-preserved
 loop-i-preserved c =
     let f = c.args.fields in
-    (omega arith, search rules, fields_turn (take 13 c.put_at.new.b) c.loop-i.c c.put_at-in-loop-i.new.b f c.loop-i.i (search rules) (omega arith) c.loop-i.invariant.2 (written (goal.at.loop-i-preserved c).After-put_at-in-loop-i))
+    (search rules, fields_turn (take 13 c.put_at.new.b) c.loop-i.c c.put_at-in-loop-i.new.b f c.loop-i.i (search rules) (omega arith) c.loop-i.invariant.1 (written (goal.at.loop-i-preserved c).After-put_at-in-loop-i))
 
 pub returns : goal.returns
 returns c =
     let e : c.loop-i.i ≡ 8 = omega arith in
     let a = c.args in
-    fields_done a.serial c.loop-i.c a.fields (search rules) c.loop-i.invariant.1
-    ((rw e at c.loop-i.invariant.2) ∙ ap (λ (r : List ℕ). r ++ fields_bytes (take 8 a.fields)) (front (goal.at.returns c).After-put_at))
+    fields_done a.serial c.loop-i.c a.fields (search rules) c.loop-i.invariant.0
+    ((rw e at c.loop-i.invariant.1) ∙ ap (λ (r : List ℕ). r ++ fields_bytes (take 8 a.fields)) (front (goal.at.returns c).After-put_at))

@@ -1,5 +1,5 @@
 -- `cardbytes::card_bytes` meets its contract: after the serial, three bytes for each field passed.
-use Prim.Native.Nat.{◌+◌, ◌*◌, ◌-◌, ◌≤◌}
+use Prim.Native.Nat.{◌+◌, ◌*◌}
 use mathlib.Core.Path.{◌≡◌}
 use mathlib.Core.List.{◌++◌}
 use lib.ListN.{length, take}
@@ -7,7 +7,4 @@ use Rattle.card.specs.Cards.{fields_bytes}
 use Rattle.cardbytes.proofs.card_bytes.Given as goal
 
 abbrev pub invariant-loop-i : goal.invariant-loop-i
-invariant-loop-i l = (l.i ≤ 8) × (length l.c ≡ 37) × (take (13 + 3 * l.i) l.c ≡ take 13 l.initial.c ++ fields_bytes (take l.i l.fields))
-
-abbrev pub decreases-loop-i : goal.decreases-loop-i
-decreases-loop-i l = 8 - l.i
+invariant-loop-i l = (length l.c ≡ 37) × (take (13 + 3 * l.i) l.c ≡ take 13 l.initial.c ++ fields_bytes (take l.i l.fields))

@@ -1,7 +1,6 @@
 -- `change::add` meets its contract.
 use mathlib.Core.Path.{◌≡◌, sym, ◌∙◌}
 use mathlib.Core.Bool.{true}
-use native.Mathlib.Nat.{sub-zero}
 use native.Mathlib.Omega.{arith}
 use lib.ListN.{length}
 use Rattle.serial.specs.Serials.{is_serial}
@@ -46,14 +45,17 @@ returns-then-not-book_in c =
 pub slice_bounds-cards-end : goal.slice_bounds-cards-end
 slice_bounds-cards-end c = omega (arith, (book (goal.at.slice_bounds-cards-end c).Else-not-book_in).within)
 
+pub slice_bounds-cards-end-2 : goal.slice_bounds-cards-end-2
+slice_bounds-cards-end-2 c = omega (arith, (book (goal.at.slice_bounds-cards-end-2 c).Else-not-book_in).long)
+
 pub enter-requires : goal.enter-requires
 enter-requires c =
-    rw (c.cards-s.ensures.0, sub-zero, c.card_bytes-x.ensures, c.of.ensures)
+    rw (c.cards-s.ensures.0, c.card_bytes-x.ensures, c.of.ensures)
     (ready_card _ _ _ (book (goal.at.enter-requires c).Else-not-book_in) (text (goal.at.enter-requires c).Else-not-is_serial) c.args.values (eight (goal.at.enter-requires c).Start))
 
 pub returns : goal.returns
 unfolding add_answer added buffer_after
 returns c =
-    let r = rw (c.cards-s.ensures.0, sub-zero, c.card_bytes-x.ensures, c.of.ensures) at c.enter.ensures in
+    let r = rw (c.cards-s.ensures.0, c.card_bytes-x.ensures, c.of.ensures) at c.enter.ensures in
     let yes = text (goal.at.returns c).Else-not-is_serial in
     (simp (yes, fit (goal.at.returns c).Else-not-values_fit, (book (goal.at.returns c).Else-not-book_in).test) r.0, simp (yes, fit (goal.at.returns c).Else-not-values_fit, (book (goal.at.returns c).Else-not-book_in).test) r.1)

@@ -1,13 +1,12 @@
 -- `change::book_in` meets its contract.
-use native.Mathlib.Nat.{sub-zero}
 use borrow.Author.Tests.{lt-leb, le-leb}
 use Rattle.change.specs.Change.{book_in}
 use Rattle.change.proofs.book_in.Goals as goal
 
-pub returns-then-buffer-used : goal.returns-then-buffer-used
+pub returns-then-used-buffer : goal.returns-then-used-buffer
 unfolding book_in
-returns-then-buffer-used c = simp (lt-leb _ _ c.if-buffer-used.true)
+returns-then-used-buffer c = simp (le-leb _ _ c.if-used-buffer.true) c.is_book.ensures
 
-pub returns : goal.returns
+pub returns-else-used-buffer : goal.returns-else-used-buffer
 unfolding book_in
-returns c = simp (le-leb _ _ c.if-buffer-used.false) (rw sub-zero at c.is_book.ensures)
+returns-else-used-buffer c = simp (lt-leb _ _ c.if-used-buffer.false)

@@ -1,7 +1,6 @@
 -- `change::withdraw` meets its contract.
 use mathlib.Core.Path.{◌≡◌, sym, ◌∙◌}
 use mathlib.Core.Bool.{true}
-use native.Mathlib.Nat.{sub-zero}
 use native.Mathlib.Omega.{arith}
 use Rattle.serial.specs.Serials.{is_serial}
 use Rattle.change.specs.Change.{withdraw_answer, after_withdraw, buffer_after}
@@ -30,14 +29,17 @@ returns-then-not-book_in c =
 pub slice_bounds-withdrawn-end : goal.slice_bounds-withdrawn-end
 slice_bounds-withdrawn-end c = omega (arith, (book (goal.at.slice_bounds-withdrawn-end c).Else-not-book_in).within)
 
+pub slice_bounds-withdrawn-end-2 : goal.slice_bounds-withdrawn-end-2
+slice_bounds-withdrawn-end-2 c = omega (arith, (book (goal.at.slice_bounds-withdrawn-end-2 c).Else-not-book_in).long)
+
 pub enter-requires : goal.enter-requires
 enter-requires c =
-    rw (c.withdrawn-s.ensures.0, sub-zero, c.bytes-x.ensures, c.of.ensures)
+    rw (c.withdrawn-s.ensures.0, c.bytes-x.ensures, c.of.ensures)
     (ready_serial _ _ _ (book (goal.at.enter-requires c).Else-not-book_in) (text (goal.at.enter-requires c).Else-not-is_serial))
 
 pub returns : goal.returns
 unfolding withdraw_answer after_withdraw buffer_after
 returns c =
-    let r = rw (c.withdrawn-s.ensures.0, sub-zero, c.bytes-x.ensures, c.of.ensures) at c.enter.ensures in
+    let r = rw (c.withdrawn-s.ensures.0, c.bytes-x.ensures, c.of.ensures) at c.enter.ensures in
     let yes = text (goal.at.returns c).Else-not-is_serial in
     (simp (yes, (book (goal.at.returns c).Else-not-book_in).test) r.0, simp (yes, (book (goal.at.returns c).Else-not-book_in).test) r.1)

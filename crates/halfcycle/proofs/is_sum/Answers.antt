@@ -1,7 +1,7 @@
 -- `is_sum` meets its contract. So far every voltage was of the range, and what is added up, with the squares that are left, comes to all of them.
 use Prim.Native.Nat.{ℕ, ◌+◌, ◌≤◌, ◌<◌}
 use native.Mathlib.Omega.{arith}
-use mathlib.Core.Path.{◌≡◌, refl, sym, ap, ◌∙◌}
+use mathlib.Core.Path.{◌≡◌, sym, ap, ◌∙◌}
 use mathlib.Core.Bool.{Bool, true, false, ◌&&◌}
 use mathlib.Core.List.{List}
 use borrow.Author.Rules.{rules}
@@ -22,30 +22,24 @@ use Rattle.halfcycle.proofs.Windows.{squares_more, squares_end}
 use Rattle.halfcycle.proofs.is_sum.Goals as goal
 use Rattle.halfcycle.proofs.is_sum.Goals.{After-in_range, After-square-total}
 
-pub loop-k-init : goal.loop-k-init
-loop-k-init c = (omega arith, refl, omega arith, omega arith)
-
-pub bounds-volts-k : goal.bounds-volts-k
-bounds-volts-k c = omega (arith, c.requires)
-
 -- the test, and what it says of the voltages from here on
-within : (c : After-in_range) → c.in_range.result ≡ in24 (get_or c.args.volts.now c.loop-k.k (pos 0))
-within c = let h : SFits w32 (get_or c.args.volts.now c.loop-k.k (pos 0)) = search rules in rw (to_z-of_z h) at c.in_range.ensures
+within : (c : After-in_range) → c.in_range.result ≡ in24 (get_or c.args.volts.now c.loop-x.x-index (pos 0))
+within c = let h : SFits w32 (get_or c.args.volts.now c.loop-x.x-index (pos 0)) = search rules in rw (to_z-of_z h) at c.in_range.ensures
 
 tested : (c : After-in_range) →
     let volts = c.args.volts.now in
-    every24 volts ≡ c.in_range.result && every24 (drop (c.loop-k.k + 1) volts)
+    every24 volts ≡ c.in_range.result && every24 (drop (c.loop-x.x-index + 1) volts)
 tested c =
     let volts = c.args.volts.now in
-    let k = c.loop-k.k in
-    sym c.loop-k.invariant.1
-    ∙ every_more volts k (omega (arith, c.requires, c.loop-k-test.true))
+    let k = c.loop-x.x-index in
+    sym c.loop-x.invariant.0
+    ∙ every_more volts k (omega (arith, c.requires, c.loop-x-test.true))
     ∙ ap (λ (b : Bool). b && every24 (drop (k + 1) volts)) (sym (within c))
 
 pub returns-then-not-in_range : goal.returns-then-not-in_range
 returns-then-not-in_range c =
     let volts = c.args.volts.now in
-    let rest = every24 (drop (c.loop-k.k + 1) volts) in
+    let rest = every24 (drop (c.loop-x.x-index + 1) volts) in
     let e : every24 volts ≡ false = tested (goal.at.returns-then-not-in_range c).After-in_range ∙ ap (λ (b : Bool). b && rest) c.if-not-in_range.true in
     ap (λ (b : Bool). b && eqb c.args.sum (squares volts)) (sym e)
 
@@ -61,33 +55,32 @@ added volts k total n h i e s = record {
   sum_is = omega (arith, e, s, squares_more volts k h);
 }
 
-squared : (c : After-square-total) → c.square-total.result ≡ square_of (get_or c.args.volts.now c.loop-k.k (pos 0))
-squared c = let h : SFits w32 (get_or c.args.volts.now c.loop-k.k (pos 0)) = search rules in c.square-total.ensures ∙ rw (to_z-of_z h)
+squared : (c : After-square-total) → c.square-total.result ≡ square_of (get_or c.args.volts.now c.loop-x.x-index (pos 0))
+squared c = let h : SFits w32 (get_or c.args.volts.now c.loop-x.x-index (pos 0)) = search rules in c.square-total.ensures ∙ rw (to_z-of_z h)
 
 pub overflow_add-total : goal.overflow_add-total
 overflow_add-total c =
     let q = goal.at.overflow_add-total c in
-    let a = added c.args.volts.now c.loop-k.k c.loop-k.total _ (omega (arith, c.requires, c.loop-k-test.true)) (sym (within q.After-in_range) ∙ c.if-not-in_range.false)
-    (squared q.After-square-total) c.loop-k.invariant.2 in
-    record { fits = omega (arith, a.small, c.loop-k.invariant.3) }
+    let a = added c.args.volts.now c.loop-x.x-index c.loop-x.total _ (omega (arith, c.requires, c.loop-x-test.true)) (sym (within q.After-in_range) ∙ c.if-not-in_range.false)
+    (squared q.After-square-total) c.loop-x.invariant.1 in
+    record { fits = omega (arith, a.small, c.loop-x.invariant.2) }
 
-pub loop-k-preserved : goal.loop-k-preserved
-loop-k-preserved c =
-    let q = goal.at.loop-k-preserved c in
+pub loop-x-preserved : goal.loop-x-preserved
+loop-x-preserved c =
+    let q = goal.at.loop-x-preserved c in
     let volts = c.args.volts.now in
-    let k = c.loop-k.k in
-    let a = added volts k c.loop-k.total _ (omega (arith, c.requires, c.loop-k-test.true)) (sym (within q.After-in_range) ∙ c.if-not-in_range.false)
-    (squared q.After-square-total) c.loop-k.invariant.2 in (
-      omega (arith, c.loop-k-test.true),
+    let k = c.loop-x.x-index in
+    let a = added volts k c.loop-x.total _ (omega (arith, c.requires, c.loop-x-test.true)) (sym (within q.After-in_range) ∙ c.if-not-in_range.false)
+    (squared q.After-square-total) c.loop-x.invariant.1 in (
       sym (tested q.After-in_range ∙ ap (λ (b : Bool). b && every24 (drop (k + 1) volts)) c.if-not-in_range.false),
       a.sum_is,
-      omega (arith, a.small, c.loop-k.invariant.3),
+      omega (arith, a.small, c.loop-x.invariant.2),
     )
 
 pub returns : goal.returns
 returns c =
     let volts = c.args.volts.now in
-    let all : length volts ≤ c.loop-k.k = omega (arith, c.requires, c.loop-k-test.false) in
-    let every : every24 volts ≡ true = sym c.loop-k.invariant.1 ∙ every_end volts c.loop-k.k all in
-    let total : c.loop-k.total ≡ squares volts = omega (arith, squares_end volts c.loop-k.k all, c.loop-k.invariant.2) in
+    let all : length volts ≤ c.loop-x.x-index = omega (arith, c.requires, c.loop-x-test.false) in
+    let every : every24 volts ≡ true = sym c.loop-x.invariant.0 ∙ every_end volts c.loop-x.x-index all in
+    let total : c.loop-x.total ≡ squares volts = omega (arith, squares_end volts c.loop-x.x-index all, c.loop-x.invariant.1) in
     ap (eqb c.args.sum) total ∙ ap (λ (b : Bool). b && eqb c.args.sum (squares volts)) (sym every)

@@ -1,11 +1,9 @@
 -- `pass` meets its contract.
-use Prim.Native.Nat.{ℕ}
-use native.Mathlib.Nat.{sub-zero}
 use native.Mathlib.Omega.{arith}
 use mathlib.Core.Path.{◌≡◌, sym, ap, subst, ◌∙◌}
 use mathlib.Core.List.{List}
 use lib.IntN.{ℤ}
-use lib.ListN.{length, take, drop}
+use lib.ListN.{length, drop}
 use Rattle.alarm.specs.Alarms.{Watching, both}
 use Rattle.halfcycle.specs.Passing.{seen_all, seen_by}
 use Rattle.halfcycle.specs.Inside.{Good}
@@ -43,8 +41,7 @@ returns-then-turn-v c =
     let q = both a.a a.volts.now in
     let e = c.see-watch.ensures
     ∙ ap (λ (u : List ℤ). seen_all a.next (both c.see-b.result c.see-b.new.volts) u) (lent_rest a.turn v)
-    ∙ ap (λ (z : Watching). seen_all a.next z (drop a.turn v)) c.see-b.ensures
-    ∙ ap (λ (n : ℕ). seen_all a.next (seen_all a.c q (take n v)) (drop a.turn v)) (sub-zero a.turn) in
+    ∙ ap (λ (z : Watching). seen_all a.next z (drop a.turn v)) c.see-b.ensures in
     let r = pass_yes a.c a.next a.turn q v (both c.see-watch.result c.see-watch.new.volts) (sym c.sound.ensures ∙ c.if-sound.true) e in
     record { value = r.0; volts_after = r.1 }
 

@@ -1,6 +1,5 @@
 -- `see` meets its contract.
-use Prim.Native.Nat.{ℕ, ◌+◌, ◌-◌, ◌≤◌}
-use native.Mathlib.Nat.{sub-zero}
+use Prim.Native.Nat.{◌+◌, ◌-◌, ◌≤◌}
 use native.Mathlib.Omega.{arith}
 use mathlib.Core.Path.{sym, ap, subst, ◌∙◌}
 use mathlib.Core.List.{List}
@@ -23,7 +22,7 @@ pub part-b-requires : goal.part-b-requires
 part-b-requires c =
     let a = c.args in
     let blank = a.a.limits.w - a.a.seen - 1 in
-    (c.requires, uniform_none a.a (length (take (blank - 0) a.v.now)) (omega (arith, length-take (blank - 0) a.v.now, c.if-left-eq0.false)))
+    (c.requires, uniform_none a.a (length (take blank a.v.now)) (omega (arith, length-take blank a.v.now, c.if-left-eq0.false)))
 
 -- after the first part W less one were seen
 first : (c : After-part-b) →
@@ -33,10 +32,10 @@ first : (c : After-part-b) →
 first c =
     let a = c.args in
     let blank = a.a.limits.w - a.a.seen - 1 in
-    let v = take (blank - 0) a.v.now in
+    let v = take blank a.v.now in
     let q = both a.a a.volts.now in
     let e = sym c.part-b.ensures in
-    let few = length-take (blank - 0) a.v.now in
+    let few = length-take blank a.v.now in
     let most = c.if-v-left.false in
     let seen : (seen_all a.c q v).watch.limits.w ≤ (seen_all a.c q v).watch.seen + 1 =
     rw (seen_limits a.c v q, seen_count a.c v q c.requires.seen) (omega (arith, few, most)) in
@@ -57,5 +56,4 @@ returns c =
     c.part-2.ensures
     ∙ ap (λ (u : List ℤ). seen_all a.c (both c.part-b.result c.part-b.new.volts) u) (lent_rest blank v)
     ∙ ap (λ (q : Watching). seen_all a.c q (drop blank v)) c.part-b.ensures
-    ∙ ap (λ (n : ℕ). seen_all a.c (seen_all a.c q (take n v)) (drop blank v)) (sub-zero blank)
     ∙ seen_split a.c blank v q

@@ -4,4 +4,4 @@ use Rattle.meter.proofs.fresh.Goals as goal
 
 pub returns : goal.returns
 unfolding fresh_of
-returns c = rw (c.none-2.ensures, c.none.ensures, c.none-none.ensures)
+returns c = simp (c.none.ensures, c.none-2.ensures, c.none-3.ensures)

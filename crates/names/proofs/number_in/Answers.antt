@@ -1,40 +1,40 @@
--- `names::number_in` meets its contract: the rows passed are not it.
-use mathlib.Core.Path.{sym, ap, ◌∙◌}
-use Rattle.names.specs.declared.Named.TheVariants.{Is}
-use Rattle.names.specs.Inside.{row_at}
-use Rattle.names.proofs.Rows.{row_lies, letters_fit, row_found, row_passed, rows_end}
-use borrow.Author.Rules.{rules}
+-- `names::number_in` meets its contract: the entry that is found is the first with this name.
+use Rattle.std.proofs.Common.{◌≡◌, ℕ, refl, ap, ◌∙◌, Bool, true, false, cond, List, [], ◌∷◌, Option, Some, None, Bor, rules}
+use Rattle.std.specs.List.{find}
+use Rattle.std.specs.Option.{option_map}
+use Rattle.std.proofs.lemmas.Iterator.{YieldsList-from_slice}
+use Rattle.std.proofs.lemmas.Iterator.Search.{find_from_yields_List}
+use borrow.Author.Tests.{tests}
+use Rattle.serial.specs.Texts.{same_text}
+use Rattle.names.specs.Names.{entries_of, named_in}
 use Rattle.names.proofs.number_in.Goals as goal
+use Rattle.names.proofs.number_in.Goals.{After-find}
 
-pub is_name-requires : goal.is_name-requires
-is_name-requires c =
-    let rows = c.args.rows.now in
-    let k = c.loop-k.k in
-    (row_lies rows k c.loop-k-test.true, letters_fit rows k c.requires c.loop-k-test.true)
+abbrev Entry : Type 0
+Entry = Bor (List ℕ) × ℕ
 
-pub overflow_mul-k : goal.overflow_mul-k
-overflow_mul-k c =
-    search (rules, row_lies c.args.rows.now c.loop-k.k c.loop-k-test.true)
+-- the number of the first entry that is found
+named_found : (table : List Entry) (t : List ℕ) → option_map (λ (e : Entry). e.1) (find (λ (e : Entry). same_text e.0.now t) table) ≡ named_in (entries_of table) t
+unfolding named_in
+named_found [] t = refl
+named_found (e ∷ es) t = by (same_text e.0.now t) (named_found es t)
+  where
+    by : (b : Bool) → option_map (λ (d : Entry). d.1) (find (λ (d : Entry). same_text d.0.now t) es) ≡ named_in (entries_of es) t
+        → option_map (λ (d : Entry). d.1) (cond b (Some e) (find (λ (d : Entry). same_text d.0.now t) es)) ≡ cond b (Some e.1) (named_in (entries_of es) t)
+    by true h = refl
+    by false h = h
 
-pub returns-then-is_name : goal.returns-then-is_name
-unfolding row_at
-returns-then-is_name c =
+-- what the search found, r, has the number
+found : (c : After-find) (r : Option (Bor Entry)) → c.find.result ≡ r → option_map (λ (e : Entry). e.1) (option_map (λ (y : Bor Entry). y.now) r) ≡ named_in (entries_of c.args.table.now) c.args.text.now
+found c r e =
     let a = c.args in
-    let same = sym c.is_name.ensures ∙ c.if-is_name.true in
-    ap Is c.byte_at-number.ensures
-    ∙ sym (c.loop-k.invariant ∙ row_found a.rows.now c.loop-k.k a.text.now c.loop-k-test.true same)
-
-pub overflow_add-k : goal.overflow_add-k
-overflow_add-k c =
-    search (rules, row_lies c.args.rows.now c.loop-k.k c.loop-k-test.true)
-
-pub loop-k-preserved : goal.loop-k-preserved
-loop-k-preserved c =
-    let a = c.args in
-    let other = sym c.is_name.ensures ∙ c.if-is_name.false in
-    c.loop-k.invariant ∙ row_passed a.rows.now c.loop-k.k a.text.now c.loop-k-test.true other
+    rw (← e) (
+    ap (option_map (λ (e : Entry). e.1)) (find_from_yields_List (λ (e : Entry). same_text e.0.now a.text.now) _ _ c.find.result c.find.ensures.ran (YieldsList-from_slice a.table.now c.iter.ensures.rest) (λ x b q k. search (rules, tests)))
+    ∙ named_found a.table.now a.text.now
+    )
 
 pub returns : goal.returns
-returns c =
-    let a = c.args in
-    sym (c.loop-k.invariant ∙ rows_end a.rows.now c.loop-k.k a.text.now c.loop-k-test.false)
+returns c = found (goal.at.returns c).After-find (Some c.in_ok-entry.entry) c.in_ok-entry.was
+
+pub returns-in_err-entry : goal.returns-in_err-entry
+returns-in_err-entry c = c.from_residual.ensures ∙ found (goal.at.returns-in_err-entry c).After-find None c.in_err-entry.was

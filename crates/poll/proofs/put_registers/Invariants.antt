@@ -1,5 +1,4 @@
 -- `poll::put_registers` meets its contract: so many registers stand behind one another.
-use Prim.Native.Nat.{◌-◌, ◌≤◌}
 use mathlib.Core.Path.{◌≡◌}
 use lib.ListN.{length, take}
 use Rattle.serial.specs.Places.{put}
@@ -8,7 +7,4 @@ use Rattle.poll.proofs.put_registers.Given as goal
 
 abbrev pub invariant-loop-k : goal.invariant-loop-k
 invariant-loop-k l =
-    (l.k ≤ length l.values) × (length l.out ≡ length l.initial.out) × (l.out ≡ put l.initial.out 2 (fields_bytes (take l.k l.values)))
-
-abbrev pub decreases-loop-k : goal.decreases-loop-k
-decreases-loop-k l = length l.values - l.k
+    (length l.out ≡ length l.initial.out) × (l.out ≡ put l.initial.out 2 (fields_bytes (take l.k l.values)))

@@ -1,9 +1,9 @@
 -- `poll::read_on` meets its contract: what is gathered so far, with what is left to read.
+use Prim.Native.Nat.{ℕ, ◌+◌, ◌-◌, ◌*◌}
+use mathlib.Core.Path.{sym, ap, ap₂, ◌∙◌}
 use mir.Syntax.{w64}
 use mir.Val.{SFits}
 use mir.Facts.{to_z-of_z}
-use Prim.Native.Nat.{◌+◌, ◌-◌}
-use mathlib.Core.Path.{refl, sym, ap, ◌∙◌}
 use native.Mathlib.Omega.{arith}
 use borrow.Author.Rules.{rules}
 use Rattle.packet.specs.Commands.{registers_from}
@@ -11,35 +11,27 @@ use Rattle.poll.specs.Polls.{read_at}
 use Rattle.poll.specs.Inside.{read_into}
 use Rattle.poll.proofs.Registers.{read_one, read_none, read_all}
 use Rattle.poll.proofs.read_on.Goals as goal
-use Rattle.poll.proofs.read_on.Goals.{In-Value}
 
-pub loop-left-init : goal.loop-left-init
-loop-left-init c = (refl, refl)
-
--- what the register at the pointer gave
-fits : (c : In-Value) → SFits w64 c.in-Value.v
-fits c = search rules
-
-pub overflow_add-at : goal.overflow_add-at
-overflow_add-at c = omega (arith, c.loop-left.invariant.0)
-
-pub loop-left-preserved : goal.loop-left-preserved
-loop-left-preserved c =
+pub loop-k-preserved : goal.loop-k-preserved
+loop-k-preserved c =
     let args = c.args in
-    let loop = c.loop-left in
-    let value = c.in-Value in (
-      omega (arith, loop.invariant.0),
-      ap (read_into (read_at args.h) (registers_from (loop.at + 3) (loop.left - 1))) (rw (to_z-of_z (fits (goal.at.loop-left-preserved c).In-Value)) at c.keep-got.ensures)
-          ∙ sym (read_one (read_at args.h) loop.got loop.at loop.left (omega arith) value.v (sym value.ensures))
-          ∙ loop.invariant.1,
-    )
+    let k = c.loop-k.k in
+    let at = args.pointer + 3 * k in
+    let v = c.in-Ok.v in
+    let fits : SFits w64 v = search rules in
+    let test = c.loop-k-test.true in
+    ap₂ (λ (at n : ℕ). read_into (read_at args.h) (registers_from at n) c.keep-got.result) (omega arith) (omega arith)
+    ∙ ap (read_into (read_at args.h) (registers_from (at + 3) (args.n - k - 1))) (rw (to_z-of_z fits) at c.keep-got.ensures)
+    ∙ sym (read_one (read_at args.h) c.loop-k.got at (args.n - k) (omega arith) v (sym c.in-Ok.ensures))
+    ∙ c.loop-k.invariant
 
-pub returns-in-Refused : goal.returns-in-Refused
-returns-in-Refused c =
-    let args = c.args in
-    let loop = c.loop-left in
-    sym (read_none (read_at args.h) loop.got loop.at loop.left (omega arith) _ (sym c.in-Refused.ensures))
-    ∙ loop.invariant.1
+pub returns-in_default : goal.returns-in_default
+returns-in_default c =
+    let k = c.loop-k.k in
+    let test = c.loop-k-test.true in
+    sym (read_none (read_at c.args.h) c.loop-k.got (c.args.pointer + 3 * k) (c.args.n - k) (omega arith) _ (sym c.in_default.ensures)) ∙ c.loop-k.invariant
 
 pub returns : goal.returns
-returns c = sym (read_all (read_at c.args.h) c.loop-left.got c.loop-left.at c.loop-left.left (omega arith)) ∙ c.loop-left.invariant.1
+returns c =
+    let k = c.loop-k.k in
+    sym (read_all (read_at c.args.h) c.loop-k.got (c.args.pointer + 3 * k) (c.args.n - k) (omega arith)) ∙ c.loop-k.invariant

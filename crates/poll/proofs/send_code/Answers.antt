@@ -1,13 +1,17 @@
 -- `poll::send_code` meets its contract.
-use borrow.Author.Tests.{le-leb, lt-leb}
-use Rattle.packet.specs.Replies.{reply_bytes}
+use borrow.Author.Tests.{le-leb}
+use Rattle.packet.specs.Replies.{code, reply_bytes}
 use Rattle.poll.specs.Polls.{replied_in}
+use Rattle.poll.proofs.Sending.{too_short, stays}
 use Rattle.poll.proofs.send_code.Goals as goal
 
-pub returns-then-fits : goal.returns-then-fits
-unfolding replied_in reply_bytes
-returns-then-fits c = (simp (le-leb _ _ c.if-fits.true), c.put_at.ensures)
+pub returns-then-out-lt1 : goal.returns-then-out-lt1
+unfolding reply_bytes
+returns-then-out-lt1 c =
+    let r = code c.args.c in
+    let b = c.args.out.now in
+    (too_short r b c.if-out-lt1.true, stays r b c.if-out-lt1.true)
 
-pub returns-else-fits : goal.returns-else-fits
+pub returns : goal.returns
 unfolding replied_in reply_bytes
-returns-else-fits c = (simp (lt-leb _ _ c.if-fits.false), c.put_at.ensures)
+returns c = (simp (le-leb _ _ c.if-out-lt1.false), c.put_at.ensures)

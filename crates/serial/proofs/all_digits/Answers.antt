@@ -1,19 +1,13 @@
--- `serial::all_digits` meets its contract: the loop gathers one test for each byte passed.
-use mathlib.Core.Path.{◌≡◌, sym}
-use native.Mathlib.Omega.{arith}
-use lib.ListN.{length}
-use Rattle.serial.specs.Serials.{digits_ok}
-use Rattle.serial.proofs.Every.{every_none, every_step}
+-- `serial::all_digits` meets its contract.
+use Rattle.std.proofs.Common.{rules, tests, ◌∙◌}
+use Rattle.std.proofs.lemmas.Iterator.{YieldsList-from_slice}
+use Rattle.std.proofs.lemmas.Iterator.Search.{all_from_yields_List}
+use Rattle.serial.specs.Serials.{is_digit, digits_ok}
+use Rattle.serial.proofs.Every.{every_of_list}
 use Rattle.serial.proofs.all_digits.Goals as goal
-
-pub loop-k-init : goal.loop-k-init
-loop-k-init c = (omega arith, sym (every_none _))
-
-pub loop-k-preserved : goal.loop-k-preserved
-loop-k-preserved c = (omega arith, rw (c.loop-k.invariant.1, c.is_digit-ok.ensures) (sym (every_step _ _)))
 
 pub returns : goal.returns
 unfolding digits_ok
 returns c =
-    let e : c.loop-k.k ≡ length c.args.text.now = omega arith in
-    rw e at c.loop-k.invariant.1
+    let t = c.args.text.now in
+    all_from_yields_List is_digit _ _ _ c.all.ensures.ran (YieldsList-from_slice t cc) (λ x b q k. search (rules, tests)) ∙ every_of_list is_digit 0 t

@@ -8,17 +8,15 @@ use Rattle.serial.proofs.Every.{gather_none, gather_step}
 use Rattle.serial.proofs.holds_serial.Goals as goal
 
 pub loop-k-init : goal.loop-k-init
-loop-k-init c = (omega arith, gather_none _ _)
+loop-k-init c = gather_none _ _
 
 pub loop-k-preserved : goal.loop-k-preserved
 loop-k-preserved c =
-    let d = c.before.before.before in (
-      omega arith,
-      rw (d.loop-k.invariant.1, c.place_ok-ok.ensures, c.byte_at.ensures) (gather_step (leb 1 d.byte_at-n.result && leb d.byte_at-n.result 12) _ d.loop-k.k),
-    )
+    let n = c.byte_at-n.result in
+    rw (c.loop-k.invariant, c.place_ok-ok.ensures, c.byte_at.ensures) (gather_step (leb 1 n && leb n 12) _ c.loop-k.k)
 
 pub returns : goal.returns
 unfolding holds_serial
 returns c =
     let e : c.loop-k.k ≡ 12 = omega arith in
-    rw (← c.byte_at-n.ensures) (rw e at c.loop-k.invariant.1)
+    rw (← c.byte_at-n.ensures) (rw e at c.loop-k.invariant)

@@ -1,13 +1,13 @@
 -- `serial::is_serial` meets its contract.
-use borrow.Author.Tests.{lt-leb, le-leb}
+use Rattle.std.proofs.Common.{arith}
+use Rattle.std.proofs.lemmas.Grind.{common_steps}
 use Rattle.serial.specs.Serials.{is_serial}
 use Rattle.serial.proofs.is_serial.Goals as goal
 
--- `serial::is_serial` meets its contract.
-pub returns-then-n-gt12 : goal.returns-then-n-gt12
+pub returns-then-contains : goal.returns-then-contains
 unfolding is_serial
-returns-then-n-gt12 c = simp (lt-leb _ _ c.if-n-gt12.true)
+returns-then-contains c = grind (arith, common_steps)
 
-pub returns : goal.returns
+pub returns-else-contains : goal.returns-else-contains
 unfolding is_serial
-returns c = simp (le-leb _ _ c.if-n-gt12.false, ← c.all_digits.ensures)
+returns-else-contains c = grind (arith, common_steps)

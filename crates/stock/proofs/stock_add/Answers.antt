@@ -12,8 +12,8 @@ use Rattle.stock.proofs.stock_add.Goals as goal
 below : (n m : ℕ) → n ≤ m → m < 2 ^ 63 → n < 2 ^ 63
 below n m h l = omega arith
 
-pub changed_number-requires : goal.changed_number-requires
-changed_number-requires c =
+pub signed_number-requires : goal.signed_number-requires
+signed_number-requires c =
     let a = c.args in
     subst (λ (x : Answer). x.value < 2 ^ 63) (sym c.add.ensures.0) (below _ _ (add_within a.buffer.now a.used a.serial.now _) (omega arith))
 
@@ -30,4 +30,4 @@ returns c =
       to_z-of_z f.squelch,
       to_z-of_z f.poffs,
     ) at c.add.ensures in
-    (to_z-of_z {w = w64} (record { sfits = c.changed_number.type_inv }) ∙ c.changed_number.ensures ∙ ap signed w.0, w.1)
+    (to_z-of_z {w = w64} (record { sfits = c.signed_number.type_inv }) ∙ c.signed_number.ensures ∙ ap signed w.0, w.1)

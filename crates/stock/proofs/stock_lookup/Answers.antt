@@ -5,7 +5,7 @@ use Rattle.book.specs.Answers.{Answer}
 use Rattle.lookup.proofs.Answers.{lookup_within}
 use Rattle.stock.proofs.stock_lookup.Goals as goal
 
-pub found_number-requires : goal.found_number-requires
-found_number-requires c =
+pub signed_number-requires : goal.signed_number-requires
+signed_number-requires c =
     let a = c.args in
     omega (arith, ap (λ (x : Answer). x.value) c.lookup.ensures, lookup_within a.book.now a.serial.now)

@@ -5,7 +5,7 @@ use Rattle.book.specs.Answers.{Answer}
 use Rattle.change.proofs.Answers.{withdraw_within}
 use Rattle.stock.proofs.stock_withdraw.Goals as goal
 
-pub changed_number-requires : goal.changed_number-requires
-changed_number-requires c =
+pub signed_number-requires : goal.signed_number-requires
+signed_number-requires c =
     let a = c.args in
     omega (arith, ap (λ (x : Answer). x.value) c.withdraw.ensures.0, withdraw_within a.buffer.now a.used a.serial.now)

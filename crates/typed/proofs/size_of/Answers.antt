@@ -7,25 +7,25 @@ use Rattle.typed.specs.Values.{numeral, held}
 use Rattle.typed.proofs.Laws.{held_more, numeral_more}
 use Rattle.typed.proofs.size_of.Goals as goal
 
-pub loop-k-init : goal.loop-k-init
+pub loop-d-init : goal.loop-d-init
 unfolding held numeral
-loop-k-init c = (omega arith, refl, omega arith)
+loop-d-init c = (refl, omega arith)
 
-pub loop-k-preserved : goal.loop-k-preserved
-loop-k-preserved c =
-    let l = c.loop-k in
-    let t = c.args.text.now in (
-      omega arith,
+pub loop-d-preserved : goal.loop-d-preserved
+loop-d-preserved c =
+    let l = c.loop-d in
+    let t = c.args.text.now in
+    let k = l.d-index in (
       c.hold-n.ensures.0
           ∙ ap (λ (d : ℕ). held (10 * l.n + d)) c.digit.ensures.0
-          ∙ ap (λ (n : ℕ). held (10 * n + (get_or t l.k 0 - 48))) l.invariant.1
-          ∙ held_more (numeral t l.k) (get_or t l.k 0 - 48)
-          ∙ ap held (sym (numeral_more t l.k)),
+          ∙ ap (λ (n : ℕ). held (10 * n + (get_or t k 0 - 48))) l.invariant.0
+          ∙ held_more (numeral t k) (get_or t k 0 - 48)
+          ∙ ap held (sym (numeral_more t k)),
       c.hold-n.ensures.1,
     )
 
 pub returns : goal.returns
 returns c =
-    let l = c.loop-k in
-    let e : l.k ≡ length c.args.text.now = omega arith in
-    (rw e at l.invariant.1, l.invariant.2)
+    let l = c.loop-d in
+    let e : l.d-index ≡ length c.args.text.now = omega arith in
+    (rw e at l.invariant.0, l.invariant.1)

@@ -4,4 +4,4 @@ use Rattle.aberzhan.proofs.Module.cards.Goals as goal
 
 pub returns : goal.returns
 unfolding cards_of
-returns c = simp (c.serial_if-waiting.ensures, c.serial_if-force.ensures)
+returns c = simp (c.serial_if.ensures, c.serial_if-2.ensures)

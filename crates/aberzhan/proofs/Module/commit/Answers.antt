@@ -1,35 +1,41 @@
--- `commit` meets its contract.
-use mathlib.Core.Path.{◌≡◌, sym, ap, ◌∙◌}
-use mathlib.Core.Bool.{true, false}
-use lib.IntN.{ℤ}
+-- `Module::commit` meets its contract.
+use mathlib.Core.Path.{ap, ◌∙◌}
 use mir.Facts.{to_z-of_z}
+use Rattle.meter.specs.declared.Meter.{Meter}
 use Rattle.desk.specs.declared.Desk.{Desk}
 use Rattle.desk.specs.Desks.{finished}
-use Rattle.desk.specs.Answers.{finishing}
-use Rattle.aberzhan.specs.Inside.{is_port, desk_at, committed}
-use Rattle.aberzhan.proofs.Steps.{commits, commit_8}
+use Rattle.desk.proofs.Finishing.{finished_with, not_finished}
+use Rattle.aberzhan.specs.Module.{done, refusal, desk_of, with_desk, with_meter, port_at, committing, commit_of}
+use Rattle.aberzhan.specs.Inside.{side_of}
+use Rattle.aberzhan.proofs.Sides.{a_port, no_port}
+use Rattle.aberzhan.proofs.Steps.{stays, waits}
 use Rattle.aberzhan.proofs.Module.commit.Goals as goal
-use Rattle.aberzhan.proofs.Module.commit.Goals.{After-desk-d, Else-is_port, Then-is_port}
 
--- the number names a port, or none
-port : (c : Then-is_port) → is_port c.args.port ≡ true
-port c = rw (to_z-of_z c.ranges.port) at (sym c.is_port.ensures ∙ c.if-is_port.true)
+pub returns-in_err-port : goal.returns-in_err-port
+unfolding commit_of
+returns-in_err-port c =
+    let m = c.args.self.now in
+    stays m _ _ c.from_residual.ensures.1
+    ∙ no_port (port_at c.args.port) _ (λ n. refusal n m) (λ s. committing m s (finished (desk_of m s))) (rw (to_z-of_z c.ranges.port) at c.in_err-port.ensures)
 
-no_port : (c : Else-is_port) → is_port c.args.port ≡ false
-no_port c = rw (to_z-of_z c.ranges.port) at (sym c.is_port.ensures ∙ c.if-is_port.false)
-
-the_desk : (c : After-desk-d) → let a = c.args in c.desk-d.result ≡ desk_at a.self a.port
-the_desk c = rw (to_z-of_z c.ranges.port) at c.desk-d.ensures
-
-pub returns-then-is_port : goal.returns-then-is_port
-returns-then-is_port c =
-    let m = c.args.self in
-    let p = c.args.port in
-    c.commit_of.ensures
-    ∙ ap (λ (q : ℤ). committed m q c.finish-finished.result) (to_z-of_z c.ranges.port)
-    ∙ ap (committed m p) (c.finish-finished.ensures ∙ ap (λ (d : Desk). finishing d (finished d)) (the_desk (goal.at.returns-then-is_port c).After-desk-d))
-    ∙ commits m p (port (goal.at.returns-then-is_port c).Then-is_port)
+pub returns-in_err-card : goal.returns-in_err-card
+unfolding commit_of
+returns-in_err-card c =
+    let m = c.args.self.now in
+    let s = side_of c.in_ok-port.port in
+    stays m _ _ c.from_residual-in_err-card.ensures.1
+    ∙ ap (committing m s) (not_finished _ _ c.in_err-card.ensures ∙ ap (λ (d : Desk). finished d) c.desk.ensures)
+    ∙ a_port (port_at c.args.port) _ (refusal 8 m) (λ s. committing m s (finished (desk_of m s))) (rw (to_z-of_z c.ranges.port) at c.in_ok-port.ensures)
 
 pub returns : goal.returns
+unfolding commit_of
 returns c =
-    c.refused.ensures ∙ commit_8 c.args.self c.args.port (no_port (goal.at.returns c).Else-is_port)
+    let m = c.args.self.now in
+    let s = side_of c.in_ok-port.port in
+    let k = c.in_ok-card in
+    let f = finished_with c.desk.result k.card k.desk k.ensures in
+    let shut = c.put_desk.ensures ∙ ap (λ (d : Desk). with_desk s d m) f.1 in
+    let waits = ap (λ (n : Meter). with_meter n c.put_desk.new.self) c.wait-self.ensures ∙ waits m c.put_desk.new.self s k.card shut in
+    ap done waits
+    ∙ ap (committing m s) (f.0 ∙ ap (λ (d : Desk). finished d) c.desk.ensures)
+    ∙ a_port (port_at c.args.port) _ (refusal 8 m) (λ s. committing m s (finished (desk_of m s))) (rw (to_z-of_z c.ranges.port) at c.in_ok-port.ensures)

@@ -1,39 +1,33 @@
--- `hold` meets its contract.
-use mathlib.Core.Path.{◌≡◌, sym, ap, ap₂, ◌∙◌}
-use mathlib.Core.Bool.{true, false}
-use lib.IntN.{ℤ}
+-- `Module::hold` meets its contract.
+use mathlib.Core.Path.{ap, ◌∙◌}
 use mir.Facts.{to_z-of_z}
-use Rattle.serial.specs.declared.Serial.{Serial}
-use Rattle.steps.specs.declared.Answer.TheVariants.{Refused}
-use Rattle.aberzhan.specs.declared.Module.{Module}
-use Rattle.aberzhan.specs.declared.Holding.{Holding}
-use Rattle.aberzhan.specs.Inside.{is_port, held}
-use Rattle.aberzhan.proofs.Steps.{holds, hold_8}
-use Rattle.sample.specs.declared.Clips.{Clips}
-use Rattle.alarm.specs.Masks.{no_alarms}
+use Rattle.aberzhan.specs.Module.{refusal, port_at, holding, hold_of}
+use Rattle.aberzhan.specs.Inside.{side_of, copied_now}
+use Rattle.aberzhan.proofs.Sides.{a_port, no_port}
+use Rattle.aberzhan.proofs.Steps.{stays, holds}
 use Rattle.aberzhan.proofs.Module.hold.Goals as goal
-use Rattle.aberzhan.proofs.Module.hold.Goals.{Else-is_port, Then-is_port}
 
--- the number names a port, or none
-port : (c : Then-is_port) → is_port c.args.port ≡ true
-port c = rw (to_z-of_z c.ranges.port) at (sym c.is_port.ensures ∙ c.if-is_port.true)
+pub returns-in_err-port : goal.returns-in_err-port
+unfolding hold_of
+returns-in_err-port c =
+    let m = c.args.self.now in
+    stays m _ _ c.from_residual.ensures.1
+    ∙ no_port (port_at c.args.port) _ (λ n. refusal n m) (λ s. holding m s (copied_now m)) (rw (to_z-of_z c.ranges.port) at c.in_err-port.ensures)
 
-no_port : (c : Else-is_port) → is_port c.args.port ≡ false
-no_port c = rw (to_z-of_z c.ranges.port) at (sym c.is_port.ensures ∙ c.if-is_port.false)
-
-abbrev not_held : Serial → Clips → Module → Holding
-not_held s k m = record { answer = Refused 8; number = 0; serial = s; clips = k; alarms = no_alarms; after = m }
-
-pub returns-then-is_port : goal.returns-then-is_port
-returns-then-is_port c =
-    let m = c.args.self in
-    let p = c.args.port in
-    c.hold_of.ensures
-    ∙ ap (λ (q : ℤ). held m q c.copy-copied.result) (to_z-of_z c.ranges.port)
-    ∙ ap (held m p) c.copy-copied.ensures
-    ∙ holds m p (port (goal.at.returns-then-is_port c).Then-is_port)
+pub returns-in_err-held : goal.returns-in_err-held
+unfolding hold_of
+returns-in_err-held c =
+    let m = c.args.self.now in
+    let s = side_of c.in_ok-port.port in
+    stays m _ _ c.from_residual-in_err-held.ensures.1
+    ∙ ap (holding m s) c.in_err-held.ensures
+    ∙ a_port (port_at c.args.port) _ (refusal 8 m) (λ s. holding m s (copied_now m)) (rw (to_z-of_z c.ranges.port) at c.in_ok-port.ensures)
 
 pub returns : goal.returns
+unfolding hold_of
 returns c =
-    ap₂ (λ (s : Serial) (k : Clips). not_held s k c.args.self) c.none-none.ensures c.unclipped.ensures
-    ∙ hold_8 c.args.self c.args.port (no_port (goal.at.returns c).Else-is_port)
+    let m = c.args.self.now in
+    let s = side_of c.in_ok-port.port in
+    holds m c.put_held.new.self s c.in_ok-held.held c.put_held.ensures
+    ∙ ap (holding m s) c.in_ok-held.ensures
+    ∙ a_port (port_at c.args.port) _ (refusal 8 m) (λ s. holding m s (copied_now m)) (rw (to_z-of_z c.ranges.port) at c.in_ok-port.ensures)

@@ -1,28 +1,45 @@
--- `poll` meets its contract.
-use mathlib.Core.Path.{ap, ◌∙◌}
+-- `Module::poll` meets its contract.
+use mathlib.Core.Path.{◌≡◌, sym, ap, ◌∙◌}
+use mathlib.Core.Bool.{Bool, cond}
 use lib.ListN.{length}
-use Rattle.serial.specs.Places.{put_within}
-use Rattle.port.specs.declared.Held.{Held}
-use Rattle.packet.specs.Replies.{reply_bytes}
-use Rattle.poll.specs.Polls.{reply_from, replied_in}
-use Rattle.aberzhan.specs.Inside.{polled}
-use Rattle.aberzhan.proofs.Polls.{now_held, poll_is, buffer_is}
+use Rattle.steps.specs.Port.{port1}
+use Rattle.aberzhan.specs.Module.{with_held}
+use Rattle.aberzhan.specs.Polling.{held_now}
+use Rattle.aberzhan.proofs.Steps.{stays}
+use Rattle.aberzhan.proofs.Polls.{now_held, poll_refused, poll_done, buffer_is}
 use Rattle.aberzhan.proofs.Module.poll.Goals as goal
+use Rattle.aberzhan.proofs.Module.poll.Goals.{After-unwrap_or-own}
 
-pub returns : goal.returns
-returns c =
-    let args = c.args in
-    let copy = c.copy-taken in
-    let answer = c.answer-replied in
-    let m = args.self in
-    let p = args.packet.now in
-    let b = args.out.now in
-    let e = now_held m p copy.result copy.ensures in (
-      c.poll_of.ensures
-          ∙ ap (polled m copy.result.held) answer.ensures.0
-          ∙ ap (λ (h : Held). polled m h (replied_in (length b) (reply_from h p))) e
-          ∙ poll_is m p (length b),
-      answer.ensures.1
-          ∙ ap (λ (h : Held). put_within b 0 (reply_bytes (reply_from h p))) e
-          ∙ buffer_is m p b,
+-- the hold is what is held now
+own : (c : After-unwrap_or-own) → c.unwrap_or-own.result ≡ held_now c.args.self.now
+own c = c.unwrap_or-own.ensures ∙ now_held c.args.self.now _ _ c.copied.ensures c.nothing.ensures
+
+pub returns-in_err-replied : goal.returns-in_err-replied
+returns-in_err-replied c =
+    let m = c.args.self.now in
+    let a = c.args in
+    let o = own (goal.at.returns-in_err-replied c).After-unwrap_or-own in (
+      stays m _ _ c.from_residual.ensures.1
+          ∙ poll_refused m a.packet.now (length a.out.now) _ _ _ o c.answer.ensures.0 c.ok_or.ensures.value _ c.in_err-replied.was,
+      buffer_is m a.packet.now a.out.now _ _ o c.answer.ensures.1,
+    )
+
+pub returns-then-replied : goal.returns-then-replied
+returns-then-replied c =
+    let m = c.args.self.now in
+    let a = c.args in
+    let o = own (goal.at.returns-then-replied c).After-unwrap_or-own in (
+      poll_done m a.packet.now (length a.out.now) _ _ _ o c.answer.ensures.0 c.ok_or.ensures.value _ _ c.in_ok-replied.was
+          (sym (ap (λ (t : Bool). cond t (with_held port1 c.unwrap_or-own.result m) m) c.if-replied.true)),
+      buffer_is m a.packet.now a.out.now _ _ o c.answer.ensures.1,
+    )
+
+pub returns-else-replied : goal.returns-else-replied
+returns-else-replied c =
+    let m = c.args.self.now in
+    let a = c.args in
+    let o = own (goal.at.returns-else-replied c).After-unwrap_or-own in (
+      poll_done m a.packet.now (length a.out.now) _ _ _ o c.answer.ensures.0 c.ok_or.ensures.value _ _ c.in_ok-replied.was
+          (sym (ap (λ (t : Bool). cond t (with_held port1 c.unwrap_or-own.result m) m) c.if-replied.false)),
+      buffer_is m a.packet.now a.out.now _ _ o c.answer.ensures.1,
     )

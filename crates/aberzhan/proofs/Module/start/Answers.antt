@@ -1,24 +1,21 @@
--- `start` meets its contract.
-use mathlib.Core.Path.{◌≡◌}
+-- `Module::start` meets its contract.
+use mathlib.Core.Path.{ap₂, ◌∙◌}
 use mir.Facts.{to_z-of_z}
-use Rattle.alarm.specs.Starting.{start_of as watchStart}
-use Rattle.meter.specs.Starting.{start_of as meterStart}
+use Rattle.alarm.specs.declared.Watch.{Watch}
+use Rattle.meter.specs.declared.Meter.{Meter}
+use Rattle.aberzhan.specs.Module.{fresh_module}
 use Rattle.aberzhan.proofs.Starts.{start_done, start_refused}
 use Rattle.aberzhan.proofs.Module.start.Goals as goal
-use Rattle.aberzhan.proofs.Module.start.Goals.{After-start-w}
 
--- what the meter and the watch make of their settings
-made : (c : After-start-w) → let a = c.args in (c.start-r.result ≡ meterStart a.n a.b a.track a.config) × (c.start-w.result ≡ watchStart a.asked)
-made c = (rw (to_z-of_z c.ranges.n, to_z-of_z c.ranges.b, to_z-of_z c.ranges.config) at c.start-r.ensures, c.start-w.ensures)
+pub returns-in-Ok : goal.returns-in-Ok
+returns-in-Ok c =
+    let f = c.ranges in
+    let e = rw (to_z-of_z f.n, to_z-of_z f.b, to_z-of_z f.config) at c.in-Ok.ensures in
+    start_done c.args.n c.args.b c.args.track c.args.asked c.args.config _ e
 
-pub returns-then-r-w : goal.returns-then-r-w
-returns-then-r-w c =
-    let a = c.args in
-    let m = made (goal.at.returns-then-r-w c).After-start-w in
-    rw (c.fresh-after.ensures, m.0, m.1) (start_done a.n a.b a.track a.asked a.config (rw (m.0, m.1) at c.if-r-w.true))
-
-pub returns : goal.returns
-returns c =
-    let a = c.args in
-    let m = made (goal.at.returns c).After-start-w in
-    rw (c.fresh-after-2.ensures, c.lowest-watch.ensures, c.lowest-m.ensures) (start_refused a.n a.b a.track a.asked a.config (rw (m.0, m.1) at c.if-r-w.false))
+pub returns-in-Err : goal.returns-in-Err
+returns-in-Err c =
+    let f = c.ranges in
+    let e = rw (to_z-of_z f.n, to_z-of_z f.b, to_z-of_z f.config) at c.in-Err.ensures in
+    start_refused c.args.n c.args.b c.args.track c.args.asked c.args.config _ _ e
+    (c.fresh.ensures ∙ ap₂ (λ (m : Meter) (a : Watch). fresh_module m a) c.lowest.ensures c.lowest-in-Err.ensures)

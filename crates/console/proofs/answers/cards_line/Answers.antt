@@ -15,8 +15,8 @@ returns c =
     let d = c.put-c.ensures in
     let e = c.put_card-d.ensures in
     let f = c.put.ensures in (
-      and_then (take c.args.used c.args.out.now) (ascii "ok " ++ card_text c.args.force ++ ascii " " ++ card_text c.args.waiting) end
-          (and_then (take c.args.used c.args.out.now) (ascii "ok " ++ card_text c.args.force ++ ascii " ") (card_text c.args.waiting)
-          (and_then (take c.args.used c.args.out.now) (ascii "ok " ++ card_text c.args.force) (ascii " ") (and_then (take c.args.used c.args.out.now) (ascii "ok ") (card_text c.args.force) a.0 b.0) d.0) e.0) f.0,
+      and_then (take c.args.used c.args.out.now) (ascii "ok " ++ card_text c.args.cards.force ++ ascii " " ++ card_text c.args.cards.waiting) end
+          (and_then (take c.args.used c.args.out.now) (ascii "ok " ++ card_text c.args.cards.force ++ ascii " ") (card_text c.args.cards.waiting)
+          (and_then (take c.args.used c.args.out.now) (ascii "ok " ++ card_text c.args.cards.force) (ascii " ") (and_then (take c.args.used c.args.out.now) (ascii "ok ") (card_text c.args.cards.force) a.0 b.0) d.0) e.0) f.0,
       omega (arith, a.1, b.1, d.1, e.1, f.1),
     )

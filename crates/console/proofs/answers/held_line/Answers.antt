@@ -7,18 +7,25 @@ use Rattle.serial.specs.Ascii.{ascii}
 use Rattle.console.specs.Answers.{end, digits_text, clips_text, alarms_text, held_line}
 use mathlib.Core.List.{◌++◌}
 use lib.ListN.{take}
+use mir.Syntax.{w32}
+use mir.Val.{Fits}
+use borrow.Author.Rules.{rules}
 use Rattle.console.proofs.answers.held_line.Goals as goal
+use Rattle.console.proofs.answers.held_line.Goals.{After-put-a}
+
+wide : (c : After-put-a) → Fits w32 c.args.h.number
+wide c = search rules
 
 pub returns : goal.returns
 unfolding held_line ascii signed_decimal
 returns c =
     let before = take c.args.used c.args.out.now in
-    let number = decimal c.args.number in
-    let serial = digits_text c.args.serial in
-    let clips = clips_text c.args.clips in
-    let alarms = alarms_text c.args.alarms in
+    let number = decimal c.args.h.number in
+    let serial = digits_text c.args.h.serial in
+    let clips = clips_text c.args.h.clips in
+    let alarms = alarms_text c.args.h.alarms in
     let a = c.put-a.ensures in
-    let b = rw (read32 c.args.number c.ranges.number) at c.put_number-b.ensures in
+    let b = rw (read32 c.args.h.number (wide (goal.at.returns c).After-put-a)) at c.put_number-b.ensures in
     let d = c.put-c.ensures in
     let e = c.put_digits-d.ensures in
     let f = c.put_clips-e.ensures in

@@ -10,21 +10,21 @@ use Rattle.console.specs.Answers.{end, bytes_text, reply_line}
 use Rattle.console.proofs.AnswerLaws.{and_then, at_most}
 use borrow.Author.Rules.{rules}
 use Rattle.console.proofs.answers.reply_line.Goals as goal
-use Rattle.console.proofs.answers.reply_line.Goals.{After-count_of-n}
+use Rattle.console.proofs.answers.reply_line.Goals.{After-min-n}
 
-whole : (c : After-count_of-n) → length c.args.reply.bytes ≡ 255
+whole : (c : After-min-n) → length c.args.reply.bytes ≡ 255
 whole c = search rules
 
-within : (c : After-count_of-n) → c.count_of-n.result ≤ length c.args.reply.bytes
-within c = omega (arith, c.count_of-n.ensures, whole c)
+within : (c : After-min-n) → c.min-n.result ≤ length c.args.reply.bytes
+within c = omega (arith, c.min-n.ensures, whole c)
 
-taken : (c : After-count_of-n) → length (take c.count_of-n.result c.args.reply.bytes) ≤ 255
-taken c = omega (arith, length-take-le c.count_of-n.result c.args.reply.bytes (within c), c.count_of-n.ensures)
+taken : (c : After-min-n) → length (take c.min-n.result c.args.reply.bytes) ≤ 255
+taken c = omega (arith, length-take-le c.min-n.result c.args.reply.bytes (within c), c.min-n.ensures)
 
-shown : (c : After-count_of-n) → take c.count_of-n.result c.args.reply.bytes ≡ take c.args.reply.length c.args.reply.bytes
+shown : (c : After-min-n) → take c.min-n.result c.args.reply.bytes ≡ take c.args.reply.length c.args.reply.bytes
 shown c =
     let r = c.args.reply in
-    ap (λ (n : ℕ). take n r.bytes) c.count_of-n.ensures ∙ at_most r.length 255 r.bytes (whole c)
+    ap (λ (n : ℕ). take n r.bytes) c.min-n.ensures ∙ at_most r.length 255 r.bytes (whole c)
 
 pub returns : goal.returns
 unfolding reply_line ascii
@@ -35,6 +35,6 @@ returns c =
     let p = c.put-a.ensures in
     let q = c.put_bytes-b.ensures in
     let e = c.put.ensures in (
-      and_then before (ascii "ok" ++ text) end (and_then before (ascii "ok") text p.0 (rw (shown (goal.at.returns c).After-count_of-n) at q.out_after)) e.0,
-      omega (arith, p.1, q.value, e.1, taken (goal.at.returns c).After-count_of-n),
+      and_then before (ascii "ok" ++ text) end (and_then before (ascii "ok") text p.0 (rw (shown (goal.at.returns c).After-min-n) at q.out_after)) e.0,
+      omega (arith, p.1, q.value, e.1, taken (goal.at.returns c).After-min-n),
     )

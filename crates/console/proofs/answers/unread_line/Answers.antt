@@ -13,8 +13,8 @@ unfolding unread_line ascii
 returns c =
     let words = ascii (why_words c.args.why) in
     let a = c.put-a.ensures in
-    let b = c.put_why-b.ensures in
+    let b = rw c.words.ensures.0 at c.put-b.ensures in
     let d = c.put.ensures in (
       and_then (take c.args.used c.args.out.now) (ascii "UNREAD: " ++ words) end (and_then (take c.args.used c.args.out.now) (ascii "UNREAD: ") words a.0 b.0) d.0,
-      omega (arith, a.1, b.1, d.1),
+      omega (arith, a.1, c.put-b.ensures.1, c.words.ensures.1, d.1),
     )

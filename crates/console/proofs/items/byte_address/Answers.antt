@@ -6,14 +6,14 @@ use lib.IntN.{pos}
 use mir.Syntax.{w32, w64}
 use mir.Val.{Fits, to_z}
 use mir.Facts.{to_z_pos}
-use Rattle.console.specs.declared.numerals.Number.TheVariants as number
+use Rattle.std.specs.Prelude.{Some}
 use Rattle.address.specs.declared.ByteAddr.{ByteAddr}
 use Rattle.address.specs.Addresses.{byte_of}
 use borrow.Author.Rules.{rules}
 use Rattle.console.proofs.items.byte_address.Goals as goal
 use Rattle.console.proofs.items.byte_address.Goals.{After-byte_of-b}
 
-fits : (c : After-byte_of-b) → Fits w32 c.in-Is.w
+fits : (c : After-byte_of-b) → Fits w32 c.in-Some.w
 fits c = search rules
 
 small : (c : After-byte_of-b) → c.byte_of-b.result.0 < 2 ^ 63
@@ -26,8 +26,5 @@ worth c = to_z_pos w64 (small c)
 pub overflow_cast-result : goal.overflow_cast-result
 overflow_cast-result c = record { sfits = small (goal.at.overflow_cast-result c).After-byte_of-b }
 
-pub returns-in-Is : goal.returns-in-Is
-returns-in-Is c = rw (c.in-Is.is, worth (goal.at.returns-in-Is c).After-byte_of-b) (ap (λ (b : ByteAddr). number.Is (pos b.0)) c.byte_of-b.ensures)
-
-pub returns-in-Not : goal.returns-in-Not
-returns-in-Not c = rw c.in-Not.is c.value.ensures
+pub returns-in-Some : goal.returns-in-Some
+returns-in-Some c = rw (c.in-Some.is, worth (goal.at.returns-in-Some c).After-byte_of-b) (ap (λ (b : ByteAddr). Some (pos b.0)) c.byte_of-b.ensures)

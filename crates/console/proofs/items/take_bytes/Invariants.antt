@@ -1,5 +1,4 @@
 -- `take_bytes` takes bytes until another thing comes or the buffer is full.
-use Prim.Native.Nat.{◌-◌}
 use mathlib.Core.Path.{◌≡◌}
 use mathlib.Core.List.{map}
 use lib.IntN.{pos}
@@ -10,6 +9,3 @@ use Rattle.console.proofs.items.take_bytes.Given as goal
 
 abbrev pub invariant-loop-count : goal.invariant-loop-count
 invariant-loop-count l = Going bytes l.text (map pos l.initial.into) (map pos l.into) l.count l.at × (length l.into ≡ length l.initial.into)
-
-abbrev pub decreases-loop-count : goal.decreases-loop-count
-decreases-loop-count l = length l.into - l.count

@@ -1,5 +1,4 @@
 -- `take_items` takes items until another thing comes or the step has no more.
-use Prim.Native.Nat.{◌-◌}
 use mathlib.Core.Path.{◌≡◌}
 use lib.ListN.{length}
 use Rattle.console.specs.Words.{items_of}
@@ -7,7 +6,4 @@ use Rattle.console.proofs.ItemLaws.{Going}
 use Rattle.console.proofs.items.take_items.Given as goal
 
 abbrev pub invariant-loop-count : goal.invariant-loop-count
-invariant-loop-count l = Going (items_of l.w) l.text l.initial.into l.into l.count l.at × (l.most ≡ length (items_of l.w)) × (length l.into ≡ length l.initial.into)
-
-abbrev pub decreases-loop-count : goal.decreases-loop-count
-decreases-loop-count l = l.most - l.count
+invariant-loop-count l = Going (items_of l.w) l.text l.initial.into l.into l.count l.at × (length l.into ≡ length l.initial.into)

@@ -1,5 +1,4 @@
 -- `take_samples` takes samples until another thing comes or the buffer is full.
-use Prim.Native.Nat.{◌-◌}
 use mathlib.Core.Path.{◌≡◌}
 use lib.ListN.{length}
 use Rattle.console.specs.Items.{samples}
@@ -8,6 +7,3 @@ use Rattle.console.proofs.items.take_samples.Given as goal
 
 abbrev pub invariant-loop-count : goal.invariant-loop-count
 invariant-loop-count l = Going (samples (length l.initial.into)) l.text l.initial.into l.into l.count l.at × (length l.into ≡ length l.initial.into)
-
-abbrev pub decreases-loop-count : goal.decreases-loop-count
-decreases-loop-count l = length l.into - l.count

@@ -1,47 +1,52 @@
 -- `digits` tells what a row of digits is worth. The digits passed are worth `worth`, and with the rest behind them what the whole is worth.
-use Prim.Native.Nat.{◌^◌, ◌<◌}
-use mathlib.Core.Path.{◌≡◌, refl, sym, ap, ◌∙◌}
+use Prim.Native.Nat.{ℕ, ◌+◌, ◌*◌, ◌^◌}
+use mathlib.Core.Path.{◌≡◌, sym, ap, ◌∙◌}
 use native.Mathlib.Omega.{arith}
-use lib.ListN.{drop}
-use borrow.Author.Tests.{le-leb, lt-leb}
-use Rattle.console.specs.Numbers.{worth_behind, up_to, digits_of}
-use Rattle.console.proofs.NumberLaws.{within, beyond, one_more, no_digit, no_more, too_high, no_digits, some_digits}
+use lib.ListN.{get_or}
+use borrow.Author.Tests.{eqb-true, eqb-false}
+use Rattle.std.specs.Prelude.{Some}
+use Rattle.console.specs.Numbers.{digit_of, up_to}
+use Rattle.console.proofs.NumberLaws.{one_more, no_digit, high_digit, no_more, one_too_many, no_digits, some_digits, then_some_is}
 use Rattle.console.proofs.numerals.digits.Goals as goal
-use Rattle.console.proofs.numerals.digits.Goals.{At-loop-k}
+use Rattle.console.proofs.numerals.digits.Goals.{In_ok-d}
 
-pub returns-then-text-eq0 : goal.returns-then-text-eq0
-returns-then-text-eq0 c = sym (no_digits _ _ c.if-text-eq0.true)
+-- the digit that the loop has come to
+read : (c : In_ok-d) → digit_of (get_or c.args.text.now c.loop-c.c-index 0) ≡ Some c.in_ok-d.d
+read c = sym c.digit.ensures ∙ c.in_ok-d.was
 
--- what the whole is worth, where the loop has come to
-whole :
-    (c : At-loop-k) →
-    digits_of c.args.base c.args.text.now ≡ up_to (2 ^ 63) (worth_behind c.args.base c.loop-k.worth (drop c.loop-k.k c.args.text.now))
-whole c = some_digits _ _ c.if-text-eq0.false ∙ ap (up_to (2 ^ 63)) (sym c.loop-k.invariant.2)
+pub returns-then-is_empty : goal.returns-then-is_empty
+returns-then-is_empty c = sym (no_digits _ _ (eqb-true _ _ (sym c.is_empty.ensures ∙ c.if-is_empty.true)))
 
-some_base : (c : At-loop-k) → 0 < c.args.base
-some_base c = omega arith
+pub loop-c-init : goal.loop-c-init
+loop-c-init c = sym (some_digits _ _ (eqb-false _ _ (sym c.is_empty.ensures ∙ c.if-is_empty.false)))
+
+pub returns-in_err-d : goal.returns-in_err-d
+returns-in_err-d c = c.from_residual.ensures ∙ sym (ap (up_to (2 ^ 63)) (no_digit _ _ _ _ c.loop-c-test.true (sym c.digit.ensures ∙ c.in_err-d.was))) ∙ c.loop-c.invariant
 
 pub returns-then-base-d : goal.returns-then-base-d
 returns-then-base-d c =
-    sym (whole (goal.at.returns-then-base-d c).At-loop-k ∙ ap (up_to (2 ^ 63)) (no_digit _ _ _ _ c.loop-k-test.true (rw c.digit-d.ensures at c.if-base-d.true)))
+    sym (ap (up_to (2 ^ 63)) (high_digit _ _ _ _ c.loop-c-test.true _ (read (goal.at.returns-then-base-d c).In_ok-d) c.if-base-d.true)) ∙ c.loop-c.invariant
 
-pub returns-then-most-worth : goal.returns-then-most-worth
-returns-then-most-worth c =
-    let d = rw c.digit-d.ensures at c.if-base-d.false in
-    let over = beyond c.loop-k.worth c.args.base (2 ^ 63) (some_base (goal.at.returns-then-most-worth c).At-loop-k) c.if-most-worth.true in
-    sym (whole (goal.at.returns-then-most-worth c).At-loop-k ∙ ap (up_to (2 ^ 63)) (sym (one_more _ _ _ _ c.loop-k-test.true d)) ∙ too_high _ _ _ (some_base (goal.at.returns-then-most-worth c).At-loop-k) (omega (arith, over)))
+pub returns-in_err-checked_mul : goal.returns-in_err-checked_mul
+returns-in_err-checked_mul c =
+    let h = c.in_err-checked_mul.ensures in
+    c.from_residual-in_err-checked_mul.ensures
+    ∙ one_too_many _ _ _ _ _ c.loop-c-test.true (read (goal.at.returns-in_err-checked_mul c).In_ok-d) c.if-base-d.false (omega (arith, h))
+    ∙ c.loop-c.invariant
 
-pub loop-k-preserved : goal.loop-k-preserved
-loop-k-preserved c = (
-  omega arith,
-  omega (arith, within _ _ _ c.if-most-worth.false),
-  rw c.digit-d.ensures (one_more _ _ _ _ c.loop-k-test.true (rw c.digit-d.ensures at c.if-base-d.false) ∙ c.loop-k.invariant.2),
-)
+pub returns-in_err-worth : goal.returns-in_err-worth
+returns-in_err-worth c =
+    let h = c.in_err-worth.ensures in
+    let m : c.in_ok-checked_mul.field-0 ≡ c.loop-c.worth * c.args.base = c.in_ok-checked_mul.ensures.1 in
+    c.from_residual-in_err-worth.ensures
+    ∙ one_too_many _ _ _ _ _ c.loop-c-test.true (read (goal.at.returns-in_err-worth c).In_ok-d) c.if-base-d.false (omega (arith, h, m))
+    ∙ c.loop-c.invariant
 
-pub returns-then-worth-le9223372036854775808 : goal.returns-then-worth-le9223372036854775808
-returns-then-worth-le9223372036854775808 c =
-    sym (whole (goal.at.returns-then-worth-le9223372036854775808 c).At-loop-k ∙ ap (up_to (2 ^ 63)) (no_more _ _ _ _ c.loop-k-test.false) ∙ rw (le-leb _ _ c.if-worth-le9223372036854775808.true) refl)
+pub loop-c-preserved : goal.loop-c-preserved
+loop-c-preserved c =
+    let m : c.in_ok-checked_mul.field-0 ≡ c.loop-c.worth * c.args.base = c.in_ok-checked_mul.ensures.1 in
+    let w : c.in_ok-worth.worth ≡ c.loop-c.worth * c.args.base + c.in_ok-d.d = c.in_ok-worth.ensures.1 ∙ ap (λ (n : ℕ). n + c.in_ok-d.d) m in
+    rw w (ap (up_to (2 ^ 63)) (one_more _ _ _ _ c.loop-c-test.true _ (read (goal.at.loop-c-preserved c).In_ok-d) c.if-base-d.false) ∙ c.loop-c.invariant)
 
-pub returns-else-worth-le9223372036854775808 : goal.returns-else-worth-le9223372036854775808
-returns-else-worth-le9223372036854775808 c =
-    sym (whole (goal.at.returns-else-worth-le9223372036854775808 c).At-loop-k ∙ ap (up_to (2 ^ 63)) (no_more _ _ _ _ c.loop-k-test.false) ∙ rw (lt-leb _ _ c.if-worth-le9223372036854775808.false) refl)
+pub returns : goal.returns
+returns c = c.then_some.ensures ∙ then_some_is _ _ ∙ sym (ap (up_to (2 ^ 63)) (no_more _ _ _ _ c.loop-c-test.false)) ∙ c.loop-c.invariant

@@ -1,37 +1,30 @@
 -- `value` tells what a text is worth as a number.
-use mathlib.Core.Path.{sym, ◌∙◌}
+use mathlib.Core.Path.{◌≡◌, sym, ◌∙◌}
+use mathlib.Core.List.{[], ◌∷◌}
+use mathlib.Core.Bool.{true, false}
+use Rattle.console.specs.Texts.{begins_with}
 use Rattle.console.specs.Numbers.{value_of}
-use Rattle.console.proofs.TextLaws.{begins_within, rest_of}
+use Rattle.console.proofs.TextLaws.{begins_is}
 use Rattle.console.proofs.numerals.value.Goals as goal
 
-pub slice_bounds-digits-count : goal.slice_bounds-digits-count
-slice_bounds-digits-count c = begins_within _ _ (sym c.begins.ensures ∙ c.if-begins.true)
-
-pub slice_bounds-digits-start : goal.slice_bounds-digits-start
-slice_bounds-digits-start c = begins_within _ _ (sym c.begins.ensures ∙ c.if-begins.true)
-
-pub returns-then-begins : goal.returns-then-begins
+pub returns-in-Some : goal.returns-in-Some
 unfolding value_of
-returns-then-begins c =
-    let hex = sym c.begins.ensures ∙ c.if-begins.true in
-    simp (hex, c.plus.ensures, c.digits.ensures, rest_of 2 c.args.text.now)
+returns-in-Some c =
+    let e = c.in-Some.ensures.cases in
+    let hex : begins_with (48 ∷ 120 ∷ []) c.args.text.now ≡ true = sym (begins_is _ _) ∙ e.0 in
+    simp (hex, c.plus.ensures, c.digits.ensures, e.1)
 
-pub slice_bounds-digits-count-then-begins-2 : goal.slice_bounds-digits-count-then-begins-2
-slice_bounds-digits-count-then-begins-2 c = begins_within _ _ (sym c.begins-2.ensures ∙ c.if-begins-2.true)
-
-pub slice_bounds-digits-start-then-begins-2 : goal.slice_bounds-digits-start-then-begins-2
-slice_bounds-digits-start-then-begins-2 c = begins_within _ _ (sym c.begins-2.ensures ∙ c.if-begins-2.true)
-
-pub returns-then-begins-2 : goal.returns-then-begins-2
+pub returns-in-Some-strip_prefix : goal.returns-in-Some-strip_prefix
 unfolding value_of
-returns-then-begins-2 c =
-    let hex = sym c.begins.ensures ∙ c.if-begins.false in
-    let below = sym c.begins-2.ensures ∙ c.if-begins-2.true in
-    simp (hex, below, c.minus.ensures, c.digits-then-begins-2.ensures, rest_of 1 c.args.text.now)
+returns-in-Some-strip_prefix c =
+    let e = c.in-Some-strip_prefix.ensures.cases in
+    let hex : begins_with (48 ∷ 120 ∷ []) c.args.text.now ≡ false = sym (begins_is _ _) ∙ c.in_default.ensures.cases in
+    let below : begins_with (45 ∷ []) c.args.text.now ≡ true = sym (begins_is _ _) ∙ e.0 in
+    simp (hex, below, c.minus.ensures, c.digits-in-Some-strip_prefix.ensures, e.1)
 
 pub returns : goal.returns
 unfolding value_of
 returns c =
-    let hex = sym c.begins.ensures ∙ c.if-begins.false in
-    let below = sym c.begins-2.ensures ∙ c.if-begins-2.false in
+    let hex : begins_with (48 ∷ 120 ∷ []) c.args.text.now ≡ false = sym (begins_is _ _) ∙ c.in_default.ensures.cases in
+    let below : begins_with (45 ∷ []) c.args.text.now ≡ false = sym (begins_is _ _) ∙ c.in_default-strip_prefix.ensures.cases in
     simp (hex, below, c.plus-2.ensures, c.digits-2.ensures)

@@ -1,13 +1,19 @@
--- `length_to` finds the first such byte. The bytes passed and the way from there make up the whole way.
-use native.Mathlib.Omega.{arith}
-use Rattle.console.proofs.TextLaws.{to_here, to_later, to_end}
+-- `length_to` finds the first such byte.
+use Prim.Native.Nat.{ℕ}
+use mathlib.Core.Path.{ap, ◌∙◌}
+use lib.Dec.{eqb}
+use lib.ListN.{length}
+use Rattle.std.proofs.Common.{Option, rules}
+use Rattle.std.specs.Option.{unwrap_or}
+use Rattle.std.proofs.lemmas.Iterator.{YieldsList-from_slice}
+use Rattle.std.proofs.lemmas.Iterator.Search.{position_from_yields_List}
+use borrow.Author.Tests.{tests}
+use Rattle.console.proofs.TextLaws.{to_found}
 use Rattle.console.proofs.texts.length_to.Goals as goal
 
-pub returns-then-text-k : goal.returns-then-text-k
-returns-then-text-k c = omega (arith, to_here c.args.stop c.args.text.now c.loop-k.k c.loop-k-test.true c.if-text-k.true)
-
-pub loop-k-preserved : goal.loop-k-preserved
-loop-k-preserved c = omega (arith, to_later c.args.stop c.args.text.now c.loop-k.k c.loop-k-test.true c.if-text-k.false)
-
 pub returns : goal.returns
-returns c = omega (arith, to_end c.args.stop c.args.text.now c.loop-k.k c.loop-k-test.false)
+returns c =
+    let stop = c.args.stop in
+    let text = c.args.text.now in
+    let found = position_from_yields_List (λ x. eqb x stop) _ _ _ c.position.ensures.ran (YieldsList-from_slice text cc) (λ x b q k. search (rules, tests)) in
+    c.unwrap_or.ensures ∙ ap (λ (o : Option ℕ). unwrap_or o (length text)) found ∙ to_found stop text

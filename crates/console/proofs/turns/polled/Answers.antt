@@ -1,27 +1,31 @@
 -- `polled` hands a packet to the module, and says its reply.
-use Prim.Native.Nat.{◌≤◌}
-use mathlib.Core.Path.{◌≡◌}
+use Prim.Native.Nat.{ℕ, ◌≤◌}
+use mathlib.Core.Path.{◌≡◌, refl, ap, ◌∙◌}
+use mathlib.Core.List.{List}
 use native.Mathlib.Omega.{arith}
-use lib.ListN.{length, take}
+use lib.ListN.{length, take, replicate, length-replicate}
 use lib.Seq.{length-take-le}
-use Rattle.console.specs.Turns.{told_reply}
-use Rattle.console.proofs.TurnLaws.{reply_bytes}
-use borrow.Author.Rules.{rules}
+use Rattle.steps.specs.Answers.{OrRefusal}
+use Rattle.steps.proofs.Answers.{handed_on}
+use Rattle.console.specs.declared.turns.Said.{Said}
+use Rattle.console.proofs.TurnLaws.{polled_says, polled_no}
 use Rattle.console.proofs.turns.polled.Goals as goal
-use Rattle.console.proofs.turns.polled.Goals.{After-no_reply-none}
 
-whole : (c : After-no_reply-none) → length c.no_reply-none.result.bytes ≡ 255
-whole c = search rules
+abbrev zeros : List ℕ
+zeros = replicate 255 0
 
-within : (c : After-no_reply-none) → c.args.room ≤ length c.no_reply-none.result.bytes
-within c = omega (arith, whole c, c.requires)
+lent : (room : ℕ) → room ≤ 255 → length (take room zeros) ≡ room
+lent room h = length-take-le room zeros (omega (arith, length-replicate {A = ℕ} 255 0))
 
-lent : (c : After-no_reply-none) → length (take c.args.room c.no_reply-none.result.bytes) ≡ c.args.room
-lent c = length-take-le _ _ (within c)
+pub returns-in_err-length : goal.returns-in_err-length
+returns-in_err-length c =
+    let a = c.args in
+    let p = c.in_err-length.ensures in
+    let m = c.poll.new.self in
+    ap (λ (s : OrRefusal Said). record { said = s; after = m }) (handed_on _ _ c.from_residual.ensures.1) ∙ polled_no a.m.now a.packet.now a.room _ m (rw (lent a.room c.requires) at p.0)
 
 pub returns : goal.returns
-unfolding told_reply
 returns c =
-    let p = c.poll-p in
-    let bytes = reply_bytes c.args.m c.args.packet.now c.args.room c.requires c.no_reply-none.result _ c.no_reply-none.ensures p.ensures.1 in
-    simp (c.bare-told.ensures, c.said_of_poll.ensures, bytes, rw (lent (goal.at.returns c).After-no_reply-none) at p.ensures.0)
+    let a = c.args in
+    let p = c.in_ok-length.ensures in
+    polled_says a.m.now a.packet.now a.room c.requires zeros _ _ _ refl p.1 (rw (lent a.room c.requires) at p.0)

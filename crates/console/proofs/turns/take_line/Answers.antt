@@ -23,7 +23,7 @@ behind : (c : After-length_to-n) →
 behind c = rest_of c.length_to-n.result c.args.line.now ∙ ap (λ (n : ℕ). drop n c.args.line.now) c.length_to-n.ensures
 
 pub returns-then-line-gt-LONGEST : goal.returns-then-line-gt-LONGEST
-returns-then-line-gt-LONGEST c = c.unread.ensures ∙ long_line _ _ _ _ _ c.if-line-gt-LONGEST.true
+returns-then-line-gt-LONGEST c = long_line _ _ _ _ _ c.if-line-gt-LONGEST.true
 
 pub slice_bounds-first_word-end : goal.slice_bounds-first_word-end
 slice_bounds-first_word-end c = sym (length-take-le _ _ (short (goal.at.slice_bounds-first_word-end c).After-length_to-n))
@@ -44,7 +44,7 @@ pub returns-in-Block : goal.returns-in-Block
 returns-in-Block c = c.with_samples.ensures ∙ ap (with_samples _ _ _ _) (behind (goal.at.returns-in-Block c).After-length_to-n) ∙ line_with _ _ _ _ _ Block (word (goal.at.returns-in-Block c).After-first_word-w ∙ c.in-Block.is) c.if-line-gt-LONGEST.false
 
 pub returns-in-Other : goal.returns-in-Other
-returns-in-Other c = c.unread-in-Other.ensures ∙ line_with _ _ _ _ _ Other (word (goal.at.returns-in-Other c).After-first_word-w ∙ c.in-Other.is) c.if-line-gt-LONGEST.false
+returns-in-Other c = line_with _ _ _ _ _ Other (word (goal.at.returns-in-Other c).After-first_word-w ∙ c.in-Other.is) c.if-line-gt-LONGEST.false
 
 pub returns-in_default : goal.returns-in_default
 returns-in_default c =

@@ -21,18 +21,17 @@ slice_bounds-behind-count c = inside (goal.at.slice_bounds-behind-count c).After
 pub slice_bounds-behind-start : goal.slice_bounds-behind-start
 slice_bounds-behind-start c = inside (goal.at.slice_bounds-behind-start c).After-take_items-n
 
-pub returns-then-behind-are_enough : goal.returns-then-behind-are_enough
-returns-then-behind-are_enough c =
+pub returns-then-is_empty-are_enough : goal.returns-then-is_empty-are_enough
+returns-then-is_empty-are_enough c =
     let t = c.take_items-n in
-    c.with_worths.ensures ∙ whole_line c.args.m c.args.w c.args.rest.now t.result _ t.ensures
-    (rw (c.are_enough.ensures, rest_of t.result.taken c.args.rest.now) at c.if-behind-are_enough.true)
+    c.with_worths.ensures ∙ whole_line c.args.m.now c.args.w c.args.rest.now t.result _ t.ensures
+    (rw (c.is_empty.ensures, c.are_enough.ensures, rest_of t.result.taken c.args.rest.now) at c.if-is_empty-are_enough.true)
 
 pub returns : goal.returns
 returns c =
     let t = c.take_items-n in
     let rest = c.args.rest.now in
-    c.unread.ensures
-    ∙ ap (λ (w : Why). unread_turn c.args.m w)
+    ap (λ (w : Why). unread_turn c.args.m.now w)
     (c.stopped.ensures ∙ ap (stopped_before (drop t.result.count (items_of c.args.w))) (rest_of t.result.taken rest))
-    ∙ not_whole c.args.m c.args.w rest t.result _ t.ensures
-    (rw (c.are_enough.ensures, rest_of t.result.taken rest) at c.if-behind-are_enough.false)
+    ∙ not_whole c.args.m.now c.args.w rest t.result _ t.ensures
+    (rw (c.is_empty.ensures, c.are_enough.ensures, rest_of t.result.taken rest) at c.if-is_empty-are_enough.false)

@@ -1,20 +1,14 @@
--- `all_written` meets its contract: the loop gathers one flag for each field.
-use mathlib.Core.Path.{◌≡◌, sym}
-use native.Mathlib.Omega.{arith}
-use Rattle.serial.proofs.Every.{every_none, every_step}
+-- `all_written` meets its contract.
+use Rattle.std.proofs.Common.{◌≡◌, ◌∙◌, Bool, false, length, rules, tests}
+use Rattle.std.proofs.lemmas.Iterator.{YieldsList-from_slice}
+use Rattle.std.proofs.lemmas.Iterator.Search.{all_from_yields_List}
 use Rattle.desk.specs.Desks.{all_written}
+use Rattle.desk.proofs.Writes.{every_of_list}
 use Rattle.desk.proofs.Desk.all_written.Goals as goal
-
-pub loop-k-init : goal.loop-k-init
-loop-k-init c = (omega arith, sym (every_none _))
-
-pub loop-k-preserved : goal.loop-k-preserved
-loop-k-preserved c =
-    let l = c.loop-k in
-    (omega arith, rw l.invariant.1 (sym (every_step _ _)))
 
 pub returns : goal.returns
 unfolding all_written
 returns c =
-    let e : c.loop-k.k ≡ 8 = omega arith in
-    rw e at c.loop-k.invariant.1
+    let w = c.args.self.written in
+    let eight : length w ≡ 8 = search rules in
+    all_from_yields_List (λ (b : Bool). b) _ _ _ c.all.ensures.ran (YieldsList-from_slice w cc) (λ x b q k. search (rules, tests)) ∙ (rw eight at (every_of_list (λ (b : Bool). b) false w))

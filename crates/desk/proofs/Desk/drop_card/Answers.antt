@@ -4,8 +4,8 @@ use Rattle.desk.proofs.Desk.drop_card.Goals as goal
 
 pub returns-then-self : goal.returns-then-self
 unfolding discarded
-returns-then-self c = simp (c.shut-shut.ensures, c.if-self.true)
+returns-then-self c = simp (c.shut.ensures, c.if-self.true)
 
 pub returns : goal.returns
 unfolding discarded
-returns c = simp (c.refused.ensures, c.if-self.false)
+returns c = simp c.if-self.false

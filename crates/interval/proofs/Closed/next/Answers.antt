@@ -4,4 +4,4 @@ use Rattle.interval.proofs.Closed.next.Goals as goal
 
 pub returns : goal.returns
 unfolding closed_of number_after
-returns c = rw (c.wrapping_add_u32.ensures.value, c.after-regs.ensures)
+returns c = rw c.after-regs.ensures

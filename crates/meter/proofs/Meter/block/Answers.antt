@@ -1,44 +1,41 @@
 -- `block` meets its contract.
 use mathlib.Core.Path.{◌≡◌, sym, ◌∙◌}
-use mathlib.Core.Bool.{true}
-use borrow.Author.Tests.{le-leb, lt-leb}
+use mathlib.Core.Bool.{true, false, ◌&&◌}
+use lib.Dec.{leb}
+use lib.ListN.{length}
 use Rattle.sample.specs.Sums.{same_length}
+use Rattle.sample.proofs.Tests.{both_of}
 use Rattle.alarm.specs.Alarms.{both}
-use Rattle.meter.proofs.Ways.{block_5, block_5_long, block_6, block_pass}
+use Rattle.meter.proofs.Ways.{block_5, block_6, block_pass}
 use Rattle.meter.proofs.Meter.block.Goals as goal
-use Rattle.meter.proofs.Meter.block.Goals.{Then-n-s1}
+use Rattle.meter.proofs.Meter.block.Goals.{Then-not-fits, Else-not-fits}
 
--- the slices are of one length
-same_is : (c : Then-n-s1) → let a = c.args in same_length a.v.now a.s1.now a.s3.now ≡ true
+-- the slices are of one length, and not too long
+fits : (c : Else-not-fits) → let a = c.args in (same_length a.v.now a.s1.now a.s3.now && leb (length a.v.now) 4096) ≡ true
 unfolding same_length
-same_is c = c.if-n-s1.true
+fits c = c.if-not-fits.false
+
+unfit : (c : Then-not-fits) → let a = c.args in (same_length a.v.now a.s1.now a.s3.now && leb (length a.v.now) 4096) ≡ false
+unfolding same_length
+unfit c = c.if-not-fits.true
 
 pub pass-requires : goal.pass-requires
-pass-requires c = same_is (goal.at.pass-requires c).Then-n-s1
+pass-requires c = (both_of _ _ (fits (goal.at.pass-requires c).Else-not-fits)).0
 
-pub returns-then-all_three : goal.returns-then-all_three
-returns-then-all_three c =
+pub returns : goal.returns
+returns c =
     let a = c.args in
-    let p = block_pass a.self (both a.a a.volts.now) a.v.now a.s1.now a.s3.now (same_is (goal.at.returns-then-all_three c).Then-n-s1) (le-leb _ _ c.if-n-le4096.true)
-    (sym c.all_three.ensures ∙ c.if-all_three.true) in
+    let p = block_pass a.self (both a.a a.volts.now) a.v.now a.s1.now a.s3.now (fits (goal.at.returns c).Else-not-fits) (sym c.all_three.ensures ∙ c.if-not-all_three.false) in
     record { value = c.pass.ensures.value ∙ p.0; volts_after = c.pass.ensures.volts_after ∙ p.1 }
 
-pub returns-then-n-le4096 : goal.returns-then-n-le4096
-returns-then-n-le4096 c =
+pub returns-then-not-all_three : goal.returns-then-not-all_three
+returns-then-not-all_three c =
     let a = c.args in
-    let r = block_6 a.self (both a.a a.volts.now) a.v.now a.s1.now a.s3.now (same_is (goal.at.returns-then-n-le4096 c).Then-n-s1) (le-leb _ _ c.if-n-le4096.true)
-    (sym c.all_three.ensures ∙ c.if-all_three.false) in
+    let r = block_6 a.self (both a.a a.volts.now) a.v.now a.s1.now a.s3.now (fits (goal.at.returns-then-not-all_three c).Else-not-fits) (sym c.all_three.ensures ∙ c.if-not-all_three.true) in
     record { value = r.0; volts_after = r.1 }
 
-pub returns-else-n-le4096 : goal.returns-else-n-le4096
-returns-else-n-le4096 c =
+pub returns-then-not-fits : goal.returns-then-not-fits
+returns-then-not-fits c =
     let a = c.args in
-    let r = block_5_long a.self (both a.a a.volts.now) a.v.now a.s1.now a.s3.now (same_is (goal.at.returns-else-n-le4096 c).Then-n-s1) (lt-leb _ _ c.if-n-le4096.false) in
-    record { value = r.0; volts_after = r.1 }
-
-pub returns-else-n-s1 : goal.returns-else-n-s1
-unfolding same_length
-returns-else-n-s1 c =
-    let a = c.args in
-    let r = block_5 a.self (both a.a a.volts.now) a.v.now a.s1.now a.s3.now c.if-n-s1.false in
+    let r = block_5 a.self (both a.a a.volts.now) a.v.now a.s1.now a.s3.now (unfit (goal.at.returns-then-not-fits c).Then-not-fits) in
     record { value = r.0; volts_after = r.1 }

@@ -63,9 +63,6 @@ slice_bounds-stretch-end-in-loop-at c = omega (arith, span (goal.at.slice_bounds
 pub slice_bounds-stretch-end-in-loop-at-2 : goal.slice_bounds-stretch-end-in-loop-at-2
 slice_bounds-stretch-end-in-loop-at-2 c = omega (arith, span (goal.at.slice_bounds-stretch-end-in-loop-at-2 c).After-reach-to, even (goal.at.slice_bounds-stretch-end-in-loop-at-2 c).Start)
 
-pub loop-at-smaller : goal.loop-at-smaller
-loop-at-smaller c = omega (arith, span (goal.at.loop-at-smaller c).After-reach-to)
-
 pub loop-at-preserved : goal.loop-at-preserved
 loop-at-preserved c =
     let a = c.args in

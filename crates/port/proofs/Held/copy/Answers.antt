@@ -8,4 +8,4 @@ returns-then-any c = simp c.if-any.true
 
 pub returns : goal.returns
 unfolding copied
-returns c = simp (c.nothing-nothing.ensures, c.if-any.false)
+returns c = simp c.if-any.false

@@ -2,4 +2,4 @@
 use Rattle.port.proofs.Held.nothing.Goals as goal
 
 pub returns : goal.returns
-returns c = simp c.none-closed.ensures
+returns c = simp c.none.ensures

@@ -4,4 +4,4 @@ use Rattle.sample.proofs.Sums.emptied.Goals as goal
 
 pub returns : goal.returns
 unfolding emptied
-returns c = rw (c.none-nothing.ensures, c.unclipped.ensures)
+returns c = rw c.none.ensures

@@ -1,5 +1,5 @@
 -- `follow` meets its contract: each turn lays one slot over what it had.
-use Prim.Native.Nat.{ℕ, ◌≤◌, ◌-◌}
+use Prim.Native.Nat.{ℕ}
 use mathlib.Core.Path.{◌≡◌}
 use mathlib.Core.Bool.{Bool}
 use mathlib.Core.List.{List}
@@ -19,7 +19,4 @@ highAt first now track old k = highest first (tracked (get_or track k off) now) 
 
 abbrev pub invariant-loop-k : goal.invariant-loop-k
 invariant-loop-k l =
-    (l.k ≤ 6) × (l.low ≡ over l.initial.low (slots (lowAt l.first l.seven l.track l.initial.low)) l.k) × (l.high ≡ over l.initial.high (slots (highAt l.first l.seven l.track l.initial.high)) l.k)
-
-abbrev pub decreases-loop-k : goal.decreases-loop-k
-decreases-loop-k l = 6 - l.k
+    (l.low ≡ over l.initial.low (slots (lowAt l.first l.seven l.track l.initial.low)) l.k) × (l.high ≡ over l.initial.high (slots (highAt l.first l.seven l.track l.initial.high)) l.k)

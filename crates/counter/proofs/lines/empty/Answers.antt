@@ -1,8 +1,0 @@
--- `counter::lines::empty` meets its contract.
-use mathlib.Core.Path.{refl}
-use Rattle.counter.specs.Lines.{shown}
-use Rattle.counter.proofs.lines.empty.Goals as goal
-
-pub returns : goal.returns
-unfolding shown
-returns c = (refl, refl)

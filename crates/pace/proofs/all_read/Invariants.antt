@@ -1,9 +1,0 @@
--- `all_read` reads nine registers.
-use Rattle.std.proofs.Common.{◌-◌, ◌≤◌}
-use Rattle.pace.proofs.all_read.Given as goal
-
-abbrev pub invariant-loop-k : goal.invariant-loop-k
-invariant-loop-k l = l.k ≤ 9
-
-abbrev pub decreases-loop-k : goal.decreases-loop-k
-decreases-loop-k l = 9 - l.k

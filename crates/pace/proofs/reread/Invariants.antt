@@ -1,9 +1,0 @@
--- `reread` holds and reads so often.
-use Rattle.std.proofs.Common.{◌-◌, ◌≤◌}
-use Rattle.pace.proofs.reread.Given as goal
-
-abbrev pub invariant-loop-k : goal.invariant-loop-k
-invariant-loop-k l = l.k ≤ l.n
-
-abbrev pub decreases-loop-k : goal.decreases-loop-k
-decreases-loop-k l = l.n - l.k
