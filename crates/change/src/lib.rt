@@ -1,14 +1,24 @@
 // Changing the book in a lent buffer: adding a card, and withdrawing a serial.
 #![tactic(auto)]
 
-ghost use Rattle.std.specs.Prelude.{◌≡◌, ◌≤◌, length, take};
-ghost use Rattle.serial.specs.Places.{put};
+ghost use Rattle.std.specs.Prelude.{◌≡◌, ◌≤◌, ◌+◌, ◌-◌, length, take};
+ghost use Rattle.serial.specs.Places.{part, put};
 ghost use Rattle.book.specs.Answers.{answer_of};
 ghost use Rattle.change.specs.Change.{book_in, with_entry, Takes, room_for, Ready, buffer_after, add_answer, added, withdraw_answer, after_withdraw};
 
 use refusal::Refusal;
 use section::Section;
 use serial::Serial;
+
+// Moves the bytes between two places up by so many, the last first.
+fn move_up(b: &mut [u8], from: usize, to: usize, by: usize)
+    requires { (from ≤ to) × (to + by ≤ length b.old) }
+    ensures { b.new ≡ put b.old (from + by) (part b.old from (to - from)) }
+{
+    for i in (from..to).rev() {
+        b[i + by] = b[i];
+    }
+}
 
 // Puts an entry last in a section of the book in the first used bytes: what stands behind the section moves up, and its count goes up by one.
 fn insert(b: &mut [u8], used: usize, s: Section, x: &[u8])
@@ -17,7 +27,7 @@ fn insert(b: &mut [u8], used: usize, s: Section, x: &[u8])
 {
     let at = s.base + s.count * s.size;
     let count = (s.count as u16 + 1).to_le_bytes();
-    b.copy_within(at..used, at + x.len());
+    move_up(b, at, used, x.len());
     serial::put_at(b, at, x);
     serial::put_at(b, s.base - 2, &count);
 }

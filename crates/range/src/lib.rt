@@ -8,14 +8,14 @@ ghost use Rattle.range.specs.Range.{in24, held_within, clipped, capped};
 pub fn in_range(x: i32) -> bool
     ensures { result ≡ in24 x }
 {
-    holds(i64::from(x))
+    (-8388608 <= x) & (x <= 8388607)
 }
 
 // Whether the 24-bit range holds x, so that clipping leaves it as it is.
 pub fn holds(x: i64) -> bool
     ensures { result ≡ in24 x }
 {
-    (-8388608 <= x) & (x <= 8388607)
+    (x >= -8388608) & (8388607 >= x)
 }
 
 // x held within lo and hi.

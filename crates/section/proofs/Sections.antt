@@ -1,22 +1,26 @@
 -- Laws of sections that the proofs of the functions, and of the crates above, cite.
-use Prim.Native.Nat.{ℕ, ◌+◌, ◌*◌, ◌-◌, ◌/◌, ◌≤◌, ◌<◌}
+use Prim.Native.Nat.{ℕ, zero, suc, ◌+◌, ◌*◌, ◌-◌, ◌/◌, ◌≤◌, ◌<◌}
 use mathlib.Core.Path.{◌≡◌, refl, sym, ap, ◌∙◌}
 use mathlib.Core.Bool.{Bool, true, false, cond, ◌&&◌}
-use mathlib.Core.List.{List}
+use mathlib.Core.List.{List, [], ◌∷◌, ◌++◌}
 use native.Mathlib.Nat.{le-div_iff_mul-le}
 use native.Mathlib.Omega.{arith}
-use lib.ListN.{length, get_or, take, drop}
-use lib.Seq.{take-take, ext_get_or}
+use lib.ListN.{length, get_or, take, drop, take-append-drop, length-drop}
+use lib.Seq.{take-take, ext_get_or, drop-drop, length-take-le, get_or-drop}
 use lib.Dec.{leb, ltb, eqb}
 use Rattle.std.specs.Prelude.{Some, None, unwrap_or}
 use borrow.Author.Tests.{eq-eqb, eqb-true, leb-true, leb-false, le-leb, lt-leb, ltb-true}
 use Rattle.serial.proofs.Every.{every_at, every_from, and_left, and_right, both}
 use Rattle.serial.specs.Places.{part}
 use Rattle.serial.proofs.Places.{length_part, row_fits}
+use mir.Syntax.{w64}
+use Rattle.std.specs.Int.{from_le_bytes}
+use Rattle.std.proofs.lemmas.Nat.{le_bytes_8}
 use Rattle.std.specs.Cmp.Lexicographic.{pointwise}
 use Rattle.std.proofs.lemmas.Slice.Eq.{slice_eq-Decides}
-use Rattle.std.proofs.lemmas.Bool.Decides.{same_from_decides, Decides-eqb}
+use Rattle.std.proofs.lemmas.Bool.Decides.{same_from_decides, Decides-eqb, Decides-and, Decides-like}
 use Rattle.serial.specs.Serials.{serial_of, serial_bytes}
+use Rattle.section.specs.Inside.{front, back}
 use Rattle.section.specs.Sections.{place_of, end_of, Lies, lies, entry_at, serial_at, entries_ok, same, distinct, section_ok, first_of, find_in, entry_of, found_in, has, place_in, placed_in}
 use Rattle.section.specs.declared.Section.{Section}
 
@@ -34,6 +38,40 @@ same_is x y lx ly h = ext_get_or 0 x y (lx ∙ sym ly) (λ k l. eqb-true _ _ (ev
 pub same_read : (x y : List ℕ) (r : Bool) → length x ≡ 13 → length y ≡ 13 → r ≡ pointwise eqb x y → r ≡ same x y
 same_read x y r lx ly e =
     same_from_decides r (same x y) (slice_eq-Decides Decides-eqb x y r e) (same_is x y lx ly, λ q. ap (same x) (sym q) ∙ same_self x)
+
+-- and where the numbers of their first and of their last eight bytes are
+word_same : (x y : List ℕ) → length x ≡ 8 → length y ≡ 8 → ((i : ℕ) → get_or x i 0 < 256) → ((i : ℕ) → get_or y i 0 < 256) → from_le_bytes w64 x ≡ from_le_bytes w64 y → x ≡ y
+word_same x y lx ly bx by e = sym (le_bytes_8 x _ lx bx refl) ∙ le_bytes_8 y _ ly by e
+
+below_take : (n : ℕ) (x : List ℕ) → ((i : ℕ) → get_or x i 0 < 256) → (i : ℕ) → get_or (take n x) i 0 < 256
+below_take zero x b i = omega arith
+below_take (suc n) [] b i = b i
+below_take (suc n) (a ∷ x) b zero = b zero
+below_take (suc n) (a ∷ x) b (suc i) = below_take n x (λ k. b (suc k)) i
+
+below_drop : (x : List ℕ) → ((i : ℕ) → get_or x i 0 < 256) → (i : ℕ) → get_or (drop 5 x) i 0 < 256
+below_drop x b i = rw (get_or-drop 5 x i 0) (b (5 + i))
+
+length_take : (x : List ℕ) → length x ≡ 13 → length (take 8 x) ≡ 8
+length_take x l = length-take-le 8 x (omega arith)
+
+length_drop : (x : List ℕ) → length x ≡ 13 → length (drop 5 x) ≡ 8
+length_drop x l = length-drop 5 x ∙ ap (λ (n : ℕ). n - 5) l
+
+eights : (x y : List ℕ) → take 8 x ≡ take 8 y → drop 5 x ≡ drop 5 y → x ≡ y
+eights x y f b =
+    let rest : drop 8 x ≡ drop 8 y = sym (drop-drop 3 5 x) ∙ ap (drop 3) b ∙ drop-drop 3 5 y in
+    sym (take-append-drop 8 x) ∙ ap (λ (h : List ℕ). h ++ drop 8 x) f ∙ ap (λ (t : List ℕ). take 8 y ++ t) rest ∙ take-append-drop 8 y
+
+pub same_words : (x y : List ℕ) → length x ≡ 13 → length y ≡ 13 → ((i : ℕ) → get_or x i 0 < 256) → ((i : ℕ) → get_or y i 0 < 256)
+    → (eqb (front x) (front y) && eqb (back x) (back y)) ≡ same x y
+unfolding front back
+same_words x y lx ly bx by =
+    let f : front x ≡ front y → take 8 x ≡ take 8 y = word_same (take 8 x) (take 8 y) (length_take x lx) (length_take y ly) (below_take 8 x bx) (below_take 8 y by) in
+    let g : back x ≡ back y → drop 5 x ≡ drop 5 y = word_same (drop 5 x) (drop 5 y) (length_drop x lx) (length_drop y ly) (below_drop x bx) (below_drop y by) in
+    same_from_decides _ (same x y)
+    (Decides-like _ (λ h. eights x y (f h.0) (g h.1)) (λ e. (ap front e, ap back e)) (Decides-and _ _ (Decides-eqb (front x) (front y)) (Decides-eqb (back x) (back y))))
+    (same_is x y lx ly, λ q. ap (same x) (sym q) ∙ same_self x)
 
 -- an entry's serial is its first 13 bytes
 pub serial_first : (b : List ℕ) (s : Section) (k : ℕ) → 13 ≤ s.size → serial_at b s k ≡ take 13 (entry_at b s k)

@@ -2,7 +2,8 @@
 #![tactic(auto)]
 
 ghost use Rattle.std.specs.Prelude.{◌≡◌, ◌<◌, length};
-ghost use Rattle.section.specs.Sections.{Lies, lies, entry_at, serial_at, entry_ok, entries_ok, distinct, section_ok, first_found, found_in, has, placed_in};
+ghost use Rattle.section.specs.Inside.{front, back};
+ghost use Rattle.section.specs.Sections.{Lies, lies, entry_at, serial_at, entry_ok, entries_ok, same, distinct, section_ok, first_found, found_in, has, placed_in};
 
 use serial::Serial;
 
@@ -23,6 +24,28 @@ impl Kind {
             Kind::Serials => serial::holds_serial(entry),
         }
     }
+}
+
+// The first eight bytes of a serial as one number.
+fn front(serial: &[u8; 13]) -> u64
+    ensures { result ≡ front serial.now }
+{
+    u64::from_le_bytes(*serial.first_chunk::<8>().unwrap())
+}
+
+// The last eight, three of which are among the first.
+fn back(serial: &[u8; 13]) -> u64
+    ensures { result ≡ back serial.now }
+{
+    u64::from_le_bytes(*serial.last_chunk::<8>().unwrap())
+}
+
+// Whether two serials are the same, all 13 bytes. A check compares each entry with each before it, so it is done by two numbers and not
+// byte by byte: it takes as long whatever digits they share.
+fn same_serial(x: &[u8; 13], y: &[u8; 13]) -> bool
+    ensures { result ≡ same x.now y.now }
+{
+    (front(x) == front(y)) & (back(x) == back(y))
 }
 
 // A section: what its entries are, where its first entry begins, how many bytes an entry has, and how many entries there are.
@@ -56,12 +79,12 @@ impl Section {
     }
 
     // The 13 bytes of its serial.
-    fn serial<'a>(self, b: &'a [u8], k: usize) -> &'a [u8]
+    fn serial<'a>(self, b: &'a [u8], k: usize) -> &'a [u8; 13]
         requires lies { Lies b.now self }
         requires within { k < self.count }
         ensures { result.now ≡ serial_at b.now self k }
     {
-        &self.entry(b, k)[..13]
+        self.entry(b, k).first_chunk::<13>().unwrap()
     }
 
     // Whether each entry is what it must be.
@@ -85,7 +108,7 @@ impl Section {
         for j in 0..self.count {
             let serial = self.serial(b, j);
             for i in 0..j {
-                if self.serial(b, i) == serial {
+                if same_serial(self.serial(b, i), serial) {
                     return false;
                 }
             }
@@ -101,13 +124,12 @@ impl Section {
     }
 
     // The first entry with the serial of these 13 bytes.
-    fn first(self, b: &[u8], key: &[u8]) -> Option<usize>
-        requires lies { Lies b.now self }
-        requires whole { length key.now ≡ 13 }
+    fn first(self, b: &[u8], key: &[u8; 13]) -> Option<usize>
+        requires { Lies b.now self }
         ensures { result ≡ first_found b.now self key.now }
     {
         for k in 0..self.count {
-            if self.serial(b, k) == key {
+            if same_serial(self.serial(b, k), key) {
                 return Some(k);
             }
         }

@@ -9,7 +9,7 @@ use native.Mathlib.Omega.{arith}
 use borrow.Author.Tests.{le-leb}
 use borrow.Rule.Slice.PartMut.{put_mid}
 use lib.ListN.{length, get_or, take, drop, set, length-append, length-take, length-drop, take-append-drop, drop_of_length-le, replicate, get_or-append}
-use lib.Seq.{length-take-le, drop-cons, set_at, get_or-take, get_or-drop, get_or-append-add, take-suc, get_or_at, ext_get_or, take_at, take_all, take-nil, drop-append-add, drop-drop, take-suc-set, drop-length}
+use lib.Seq.{length-take-le, drop-cons, set_at, get_or-take, get_or-drop, get_or-append-add, take-suc, get_or_at, ext_get_or, take_at, take_all, take-nil, drop-append-add, drop-drop, take-suc-set, paste, paste-zero, paste-suc, take-length, drop-length}
 use Rattle.serial.specs.Places.{part, put, put_within, tab}
 
 -- ---- part
@@ -147,6 +147,17 @@ drop_replicate (suc n) zero a = rw zero-sub
 drop_replicate (suc n) (suc m) a = let e : suc m - suc n ≡ m - n = omega arith in rw e (drop_replicate n m a)
 
 -- ---- loops that write
+-- a turn of the loop that copies xs: k bytes of it stand
+pub copied_none : (b xs : List ℕ) (at : ℕ) → b ≡ paste b at xs 0
+copied_none b xs at = paste-zero b at xs
+
+pub copied_more : (b xs : List ℕ) (at k : ℕ) → at + k < length b → k < length xs → set (paste b at xs k) (at + k) (get_or xs k 0) ≡ paste b at xs (k + 1)
+copied_more b xs at k l h = rw add-one (paste-suc b at xs k 0 l h)
+
+pub copied_all : (b xs : List ℕ) (at : ℕ) → paste b at xs (length xs) ≡ put b at xs
+unfolding put
+copied_all b xs at = rw take-length
+
 -- a turn of the loop that moves bytes up, the last first: byte i goes to i + by
 pub move_more : (b : List ℕ) (i to by : ℕ) → i < to → to + by ≤ length b
     → (m : List ℕ) → m ≡ put b (i + 1 + by) (part b (i + 1) (to - (i + 1))) → set m (i + by) (get_or m i 0) ≡ put b (i + by) (part b i (to - i))

@@ -17,7 +17,11 @@ pub struct Serial {
 pub fn all_digits(text: &[u8]) -> bool
     ensures { result ≡ digits_ok text.now }
 {
-    text.iter().all(|d| d.is_ascii_digit())
+    let mut ok = true;
+    for k in 0..text.len() {
+        ok = ok & text[k].is_ascii_digit();
+    }
+    ok
 }
 
 // Whether a text is a serial: 1 to 12 ASCII digits.
@@ -41,13 +45,23 @@ pub fn same_text(a: &[u8], b: &[u8]) -> bool
     a == b
 }
 
+// Copies xs into b at a place where there is room.
+fn copy_in(b: &mut [u8], at: usize, xs: &[u8])
+    requires { at + length xs.now ≤ length b.old }
+    ensures { b.new ≡ put b.old at xs.now }
+{
+    for k in 0..xs.len() {
+        b[at + k] = xs[k];
+    }
+}
+
 // Copies xs into b at a place; where it does not fit, nothing is written.
 pub fn put_at(b: &mut [u8], at: usize, xs: &[u8])
     ensures { b.new ≡ put_within b.old at xs.now }
 {
     let n = xs.len();
     if n <= b.len() && at <= b.len() - n {
-        b[at..at + n].copy_from_slice(xs);
+        copy_in(b, at, xs);
     }
 }
 

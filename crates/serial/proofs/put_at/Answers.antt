@@ -2,14 +2,13 @@
 use Rattle.std.proofs.Common.{◌+◌, ◌<◌, length, sym, ◌∙◌, arith}
 use borrow.Author.Tests.{lt-leb}
 use Rattle.serial.specs.Places.{put_within}
-use Rattle.serial.proofs.Places.{put_fits, put_mid_is}
+use Rattle.serial.proofs.Places.{put_fits}
 use Rattle.serial.proofs.put_at.Goals as goal
 use Rattle.serial.proofs.put_at.Goals.{else-n-b-via-then-n-b+else-at-b, else-n-b-via-else-n-b}
 
 pub returns-then-at-b : goal.returns-then-at-b
 returns-then-at-b c =
-    let a = c.args in
-    rw c.copy_from_slice.ensures.after (put_mid_is a.b.now a.xs.now a.at ∙ sym (put_fits _ _ _ (omega arith)))
+    c.copy_in.ensures ∙ sym (put_fits _ _ _ (omega arith))
 
 pub returns-else-n-b : goal.returns-else-n-b
 unfolding put_within

@@ -1,21 +1,15 @@
 -- `Section::distinct` meets its contract: j entries have no serial of an entry before them; i entries differ from entry j.
 use mathlib.Core.Path.{◌≡◌, sym, ap, ◌∙◌}
 use mathlib.Core.Bool.{not}
-use Prim.Native.Nat.{◌<◌}
 use native.Mathlib.Omega.{arith}
 use Rattle.serial.proofs.Every.{every_none, every_more, every_fails}
 use Rattle.section.specs.Sections.{same, serial_at, fresh, distinct}
-use Rattle.section.proofs.Sections.{same_read, length_serial}
 use Rattle.section.proofs.Section.distinct.Goals as goal
-use Rattle.section.proofs.Section.distinct.Goals.{After-eq}
+use Rattle.section.proofs.Section.distinct.Goals.{After-same_serial}
 
 -- what the comparison says of the two serials
-compared : (c : After-eq) → c.eq.result ≡ same (serial_at c.args.b.now c.args.self c.loop-i.i) (serial_at c.args.b.now c.args.self c.loop-j.j)
-compared c =
-    let a = c.args in
-    let li : c.loop-i.i < a.self.count = omega arith in
-    same_read _ _ _ (length_serial a.b.now a.self _ c.requires li) (length_serial a.b.now a.self _ c.requires c.loop-j-test.true)
-    (rw (c.serial.ensures, c.serial-serial.ensures) at c.eq.ensures)
+compared : (c : After-same_serial) → c.same_serial.result ≡ same (serial_at c.args.b.now c.args.self c.loop-i.i) (serial_at c.args.b.now c.args.self c.loop-j.j)
+compared c = rw (c.serial.ensures, c.serial-serial.ensures) at c.same_serial.ensures
 
 pub loop-j-init : goal.loop-j-init
 loop-j-init c = every_none _
@@ -23,13 +17,13 @@ loop-j-init c = every_none _
 pub loop-i-init : goal.loop-i-init
 loop-i-init c = every_none _
 
-pub returns-then-eq : goal.returns-then-eq
+pub returns-then-same_serial : goal.returns-then-same_serial
 unfolding distinct fresh
-returns-then-eq c =
-    sym (every_fails _ _ _ c.loop-j-test.true (every_fails _ _ _ c.loop-i-test.true (ap not (sym (compared (goal.at.returns-then-eq c).After-eq) ∙ c.if-eq.true))))
+returns-then-same_serial c =
+    sym (every_fails _ _ _ c.loop-j-test.true (every_fails _ _ _ c.loop-i-test.true (ap not (sym (compared (goal.at.returns-then-same_serial c).After-same_serial) ∙ c.if-same_serial.true))))
 
 pub loop-i-preserved : goal.loop-i-preserved
-loop-i-preserved c = every_more _ _ c.loop-i.invariant (ap not (sym (compared (goal.at.loop-i-preserved c).After-eq) ∙ c.if-eq.false))
+loop-i-preserved c = every_more _ _ c.loop-i.invariant (ap not (sym (compared (goal.at.loop-i-preserved c).After-same_serial) ∙ c.if-same_serial.false))
 
 pub loop-j-preserved : goal.loop-j-preserved
 unfolding fresh

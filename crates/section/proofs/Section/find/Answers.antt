@@ -13,8 +13,8 @@ returns-then-not-lies c =
     let n = c.args.self.count in
     simp (sym c.lies.ensures ∙ c.if-not-lies.true, le-ltb n n (omega arith))
 
-pub first-requires-clause-lies : goal.first-requires-clause-lies
-first-requires-clause-lies c = lies_has _ _ (sym c.lies.ensures ∙ c.if-not-lies.false)
+pub first-requires : goal.first-requires
+first-requires c = lies_has _ _ (sym c.lies.ensures ∙ c.if-not-lies.false)
 
 pub returns : goal.returns
 unfolding found_in find_in first_found
