@@ -1,2 +1,3 @@
--- Laws of lines.
+-- Laws of lines, and of what stock answers.
 pub mod Laws
+pub mod Said

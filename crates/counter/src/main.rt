@@ -4,6 +4,7 @@
 // new one. The second file is made first, and only where it is not there yet, so that no two changes are under way at the same time.
 #![tactic(auto)]
 
+mod asked;
 mod files;
 mod line;
 mod lines;
@@ -12,7 +13,6 @@ mod orders;
 
 ghost use Rattle.std.specs.Prelude.{◌≤◌, length, IfErr};
 
-use card::Card;
 use files::{beside, create, keep, read_book, remove, rename};
 use line::Line;
 use orders::Order;
@@ -81,7 +81,9 @@ fn refuse(rt: &(impl Print + Eprint), refusal: Refusal) {
 }
 
 // An argument, put in a buffer. A missing one counts as empty, and so does one that is longer than the buffer.
-fn argument<'a>(rt: &impl Env, k: usize, buffer: &'a mut [u8]) -> &'a [u8] {
+fn argument<'a>(rt: &impl Env, k: usize, buffer: &'a mut [u8]) -> &'a [u8]
+    ensures { length result.now ≤ length buffer.old }
+{
     match rt.arg(k, buffer) {
         Ok(n) => &buffer[..n],
         Err(_) => &[],
@@ -116,17 +118,17 @@ fn read_values(rt: &impl Env) -> Result<[i64; 8], usize>
     Ok(values)
 }
 
-fn print_field(rt: &(impl Print + Eprint), name: &[u8], value: i32)
+fn print_field(rt: &(impl Print + Eprint), name: &[u8], value: i64)
     requires { length name.now ≤ 20 }
 {
-    print(rt, lines::number_line(name, i64::from(value)));
+    print(rt, lines::number_line(name, value));
 }
 
-fn print_card(rt: &(impl Print + Eprint), card: Card, label: &[u8]) {
+fn print_card(rt: &(impl Print + Eprint), fields: [i64; 8], label: &[u8]) {
     if label.len() <= 12 {
         print(rt, lines::text_line(b"SERIAL", label));
     }
-    let [voffs, ioffs, vgain, igain, phase, irmsoffs, squelch, poffs] = card.fields;
+    let [voffs, ioffs, vgain, igain, phase, irmsoffs, squelch, poffs] = fields;
     print_field(rt, b"VOFFS", voffs);
     print_field(rt, b"IOFFS", ioffs);
     print_field(rt, b"VGAIN", vgain);
@@ -140,17 +142,16 @@ fn print_card(rt: &(impl Print + Eprint), card: Card, label: &[u8]) {
 fn find(rt: &(impl Env + Print + Eprint), book: &[u8]) {
     let mut buffer = [0u8; 4096];
     let label = argument(rt, 3, &mut buffer);
-    match lookup::lookup(book, label) {
-        Ok(_) => print_card(rt, Card::of(lookup::card_of(book, label)), label),
+    match asked::find(book, label) {
+        Ok(fields) => print_card(rt, fields, label),
         Err(refusal) => refuse(rt, refusal),
     }
 }
 
 fn check(rt: &(impl Print + Eprint), book: &[u8]) {
-    if book::is_book(book) {
-        say(rt, b"WELL FORMED\n");
-    } else {
-        refuse(rt, Refusal::Malformed);
+    match asked::check(book) {
+        Ok(_) => say(rt, b"WELL FORMED\n"),
+        Err(refusal) => refuse(rt, refusal),
     }
 }
 
@@ -175,8 +176,8 @@ fn make_change(
     let mut word = [0u8; 4096];
     let label = argument(rt, 3, &mut word);
     match order {
-        Change::Add(values) => change::add(buffer, used, label, values),
-        Change::Withdraw => change::withdraw(buffer, used, label),
+        Change::Add(values) => asked::add(buffer, used, label, values),
+        Change::Withdraw => asked::withdraw(buffer, used, label),
     }
 }
 
