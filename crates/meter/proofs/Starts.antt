@@ -3,7 +3,7 @@ use Prim.Native.Nat.{ℕ, ◌≤◌}
 use mathlib.Core.Path.{◌≡◌, refl, sym, ap}
 use mathlib.Core.Bool.{Bool, true, false, cond, ◌&&◌, true≢false}
 use mathlib.Core.List.{List}
-use lib.Dec.{T, lit≤}
+use lib.Dec.{T, leb, lit≤}
 use lib.IntN.{ℤ, pos, negsuc, nat_abs}
 use lib.Signed.{le_z, non_neg}
 use borrow.Author.Tests.{leb-true}
@@ -58,3 +58,8 @@ numbers_in n b e =
     let c2 : _ = both_of _ _ c3.0 in
     let c1 : _ = both_of _ _ c2.0 in
     (between n 4096 c1.0 c1.1, between b 281474976710655 c2.1 c3.1)
+
+pub config_in : (config : ℤ) → config_ok config ≡ true → T (non_neg config) × (nat_abs config ≤ 255)
+unfolding config_ok
+config_in (pos n) e = (tt, leb-true n 255 (both_of (leb 0 n) (leb n 255) e).1)
+config_in (negsuc n) e = absurd (true≢false (sym e))

@@ -4,13 +4,14 @@ use mathlib.Core.Path.{◌≡◌, refl, sym, ap, ◌∙◌}
 use mathlib.Core.Bool.{Bool, true, false, cond}
 use mathlib.Core.List.{List}
 use native.Mathlib.Omega.{arith}
-use lib.Dec.{leb}
+use lib.Dec.{leb, ltb, eqb}
 use lib.ListN.{length}
 use borrow.Author.Tests.{lt-ltb, le-ltb, le-leb, eq-eqb, ne_eqb}
 use Rattle.section.specs.Sections.{place_of, end_of}
 use Rattle.book.specs.Book.{cards, withdrawn, well_formed}
 use Rattle.book.proofs.Sections.{formed_sized}
-use Rattle.std.specs.Prelude.{Some}
+use Rattle.std.specs.Prelude.{Option, Some, None}
+use Rattle.reader.specs.declared.Entry.{Entry}
 use Rattle.reader.specs.declared.Kind.{Kind}
 use Rattle.reader.specs.declared.Kind.TheVariants.{Card, Withdrawn}
 use Rattle.reader.specs.Walk.{Step, past_count, no_step, entry_step, step_at, step_after}
@@ -49,6 +50,47 @@ one_on false false x y z p h i j = j
 pub past_up : (t : Bool) (at : ℕ) → at ≤ cond t (at + 2) at
 past_up true at = omega arith
 past_up false at = omega arith
+
+pub goes_on : (b : List ℕ) (at : ℕ) → at ≤ (step_at b at).next
+unfolding step_at
+goes_on b at =
+    let e = end_of (cards b) in
+    let p = past_count at e in
+    let u : at ≤ p = past_up (eqb at e) at in
+    let n : p ≤ (step_at b at).next = one_on (ltb p e) (ltb p (end_of (withdrawn b))) (entry_step Card 37 (length b) p) (entry_step Withdrawn 13 (length b) p) (no_step p) p
+    (entry_on Card 37 (length b) p) (entry_on Withdrawn 13 (length b) p) (omega arith) in
+    omega (arith, u, n)
+
+-- nor does what it finds stand behind the reader: the place of the entry, and where there is none, that at which the reader stays
+unfoldable pub stands : Step → ℕ
+stands s = stood s.found s.next
+  where
+    stood : Option Entry → ℕ → ℕ
+    stood (Some e) n = e.at
+    stood None n = n
+
+stands_at : (t : Bool) (kind : Kind) (size at : ℕ) → stands (cond t (record { found = Some (record { kind = kind; at = at }); next = at + size }) (no_step at)) ≡ at
+unfolding stands
+stands_at true kind size at = refl
+stands_at false kind size at = refl
+
+entry_stands : (kind : Kind) (size len at : ℕ) → stands (entry_step kind size len at) ≡ at
+unfolding entry_step
+entry_stands kind size len at = stands_at (leb (at + size) len) kind size at
+
+one_stands : (t u : Bool) (x y z : Step) (p : ℕ) → stands x ≡ p → stands y ≡ p → stands z ≡ p → stands (cond t x (cond u y z)) ≡ p
+one_stands true u x y z p h i j = h
+one_stands false true x y z p h i j = i
+one_stands false false x y z p h i j = j
+
+pub not_back : (b : List ℕ) (at : ℕ) → at ≤ stands (step_at b at)
+unfolding step_at
+not_back b at =
+    let e = end_of (cards b) in
+    let p = past_count at e in
+    let z = one_stands (ltb p e) (ltb p (end_of (withdrawn b))) (entry_step Card 37 (length b) p) (entry_step Withdrawn 13 (length b) p) (no_step p) p
+    (entry_stands Card 37 (length b) p) (entry_stands Withdrawn 13 (length b) p) (stands_at false Card 37 p) in
+    rw z (past_up (eqb at e) at)
 
 -- ---- the walk through a book of the right size
 there : (e : Kind) (size len at : ℕ) → at + size ≤ len → entry_step e size len at ≡ record { found = Some (record { kind = e; at = at }); next = at + size }
