@@ -40,8 +40,8 @@ fn back(serial: &[u8; 13]) -> u64
     u64::from_le_bytes(*serial.last_chunk::<8>().unwrap())
 }
 
-// Whether two serials are the same, all 13 bytes. A check compares each entry with each before it, so it is done by two numbers and not
-// byte by byte: it takes as long whatever digits they share.
+// Whether two serials are the same, all 13 bytes: two comparisons of numbers and not thirteen of bytes, whatever digits they share. The
+// check of a section compares each entry with each before it.
 fn same_serial(x: &[u8; 13], y: &[u8; 13]) -> bool
     ensures { result ≡ same x.now y.now }
 {
